@@ -17,7 +17,7 @@ pub record IsPlaceOf {T : Type 0} (entries : T → List ℕ) (pages slots sector
   pub small : p.turn < 3
   pub index : IsPageTable pages m (base_in slots p.turn) slots (entries p.table)
   pub free : AreFree m (base_in slots p.turn) p.next slots
-  pub spare : IsSpare pages slots sectors start m (words_of pages slots m) p.turn p.erased p.copied p.behind
+  pub spare : IsSpare pages slots sectors start m (words_of pages slots m) p.turn p.erased p.copied p.behind p.older
 
 -- The flash stands for words, and the place is its own where it says so.
 pub record IsLog {T : Type 0} (entries : T → List ℕ) (pages slots sectors : ℕ) (start : ℕ → ℕ) (m : List ℕ)
@@ -40,7 +40,16 @@ state_of pages slots s =
 
 -- The log of a flash whose pages are not found yet.
 abbrev pub new_log : ℕ → ℕ → FlashState → LogState
-new_log pages slots s = record { flash = state_of pages slots s; paced = false; fresh = true; free = 0; raw = s.words }
+new_log pages slots s = record {
+  flash = state_of pages slots s;
+  paced = false;
+  extra = 0;
+  ready = false;
+  tried = 0;
+  fresh = true;
+  free = 0;
+  raw = s.words;
+}
 
 -- Why a flash is not taken: it has no log, and nothing changed; power was lost; or it failed. No word changed.
 abbrev pub OpenStopsBy : ℕ → FlashFault → FlashState → FlashState → Type 0

@@ -1,10 +1,12 @@
 //! The move to the other area, a step at each write: so that no write has to move all pages.
-ghost use Rattle.std.specs.Prelude.{◌≡◌, ◌≢◌, ◌<◌, ◌≤◌, ◌+◌, ◌*◌, true, false, length, slice_index, IfOk, OnOk};
+ghost use Rattle.std.specs.Prelude.{◌≡◌, ◌≢◌, ◌<◌, ◌≤◌, ◌+◌, ◌-◌, ◌*◌, ℕ, true, false, length, slice_index};
+ghost use Rattle.std.specs.Prelude.{IfOk, OnErr, OnOk};
 ghost use Rattle.flash_device.specs.FlashBlocks.{area_size};
 ghost use Rattle.flash_device.specs.FlashCalls.{Costs, SameElsewhere, Tries};
-ghost use Rattle.flash_device.specs.FlashLogs.{base_in, close_b, find, turn_of, words_of};
+ghost use Rattle.flash_device.specs.FlashLogs.{base_in, close_b, close_of, find, turn_of, words_of};
 ghost use Rattle.flash_device.specs.FlashLogs.{is_marked as has_mark};
-ghost use Rattle.flash_log.specs.Paces.{HasStepped, HasMoved, IsRoomy, KeepsPace, MovesWell, lead_of};
+ghost use Rattle.flash_log.specs.Paces.{EndsStep, HasStepped, HasMoved, IsCaughtUp, IsInPace, IsRoomy, KeepsFree};
+ghost use Rattle.flash_log.specs.Paces.{MovesWell, StandsSo, StaysCopied, failed_since, lead_of, lost_since};
 ghost use Rattle.flash_device.specs.PageTables.{IsPageTable};
 ghost use Rattle.flash_log.specs.Places.{IsLog};
 ghost use Rattle.flash_log.specs.Rings.{IsRing};
@@ -34,12 +36,17 @@ fn copy_ahead<F: Flash>(
         ≡ find (F.state flash.old).words (base_in F.SLOTS turn) F.SLOTS page) }
     requires copies { (next < end) × (end ≤ F.SLOTS)
         × HasCopies F.PAGES F.SLOTS (F.state flash.old).words
-        (words_of F.PAGES F.SLOTS (F.state flash.old).words) (spare_in F.SLOTS turn) page next }
+        (words_of F.PAGES F.SLOTS (F.state flash.old).words) (base_in F.SLOTS turn) (spare_in F.SLOTS turn)
+        page next 0 }
     ensures elsewhere { SameElsewhere (F.state flash.old).words (spare_in F.SLOTS turn) (20 * F.SLOTS)
         (F.state flash.new).words }
     ensures copies { IfOk result (λ n. HasCopies F.PAGES F.SLOTS (F.state flash.new).words
-        (words_of F.PAGES F.SLOTS (F.state flash.new).words) (spare_in F.SLOTS turn)
-        (page + 1) n) }
+        (words_of F.PAGES F.SLOTS (F.state flash.new).words) (base_in F.SLOTS turn) (spare_in F.SLOTS turn)
+        (page + 1) n 0) }
+    // At every exit it took one slot at most, and one more for each Fault, and left the copies before it.
+    ensures torn { next + 1 + ((F.state flash.new).faults - (F.state flash.old).faults) ≤ F.SLOTS
+        → StaysCopied F.PAGES F.SLOTS (F.state flash.old).words (F.state flash.new).words turn page next
+        (next + 1 + ((F.state flash.new).faults - (F.state flash.old).faults)) }
     ensures most { IfOk result (λ n. n ≤ end) }
     ensures passes { IfOk result (λ n. n + (F.state flash.old).faults ≤ next + 1 + (F.state flash.new).faults) }
     ensures light { Tries 1 (F.state flash.old) (F.state flash.new) result }
@@ -69,12 +76,16 @@ fn copy_step<F: Flash>(
         × IsPageTable F.PAGES (F.state flash.old).words (base_in F.SLOTS turn) F.SLOTS (F.Table.entries table.now) }
     requires copies { (next + STEP_PAGES ≤ F.SLOTS)
         × HasCopies F.PAGES F.SLOTS (F.state flash.old).words
-        (words_of F.PAGES F.SLOTS (F.state flash.old).words) (spare_in F.SLOTS turn) first next }
+        (words_of F.PAGES F.SLOTS (F.state flash.old).words) (base_in F.SLOTS turn) (spare_in F.SLOTS turn)
+        first next 0 }
     ensures elsewhere { SameElsewhere (F.state flash.old).words (spare_in F.SLOTS turn) (20 * F.SLOTS)
         (F.state flash.new).words }
     ensures copies { IfOk result (λ n. HasCopies F.PAGES F.SLOTS (F.state flash.new).words
-        (words_of F.PAGES F.SLOTS (F.state flash.new).words) (spare_in F.SLOTS turn)
-        (first + STEP_PAGES) n) }
+        (words_of F.PAGES F.SLOTS (F.state flash.new).words) (base_in F.SLOTS turn) (spare_in F.SLOTS turn)
+        (first + STEP_PAGES) n 0) }
+    ensures torn { next + STEP_PAGES + ((F.state flash.new).faults - (F.state flash.old).faults) ≤ F.SLOTS
+        → StaysCopied F.PAGES F.SLOTS (F.state flash.old).words (F.state flash.new).words turn first next
+        (next + STEP_PAGES + ((F.state flash.new).faults - (F.state flash.old).faults)) }
     ensures passes { IfOk result (λ n. n + (F.state flash.old).faults
         ≤ next + STEP_PAGES + (F.state flash.new).faults) }
     ensures light { Tries 1 (F.state flash.old) (F.state flash.new) result }
@@ -102,27 +113,33 @@ fn pass_turn<F: Flash>(flash: &mut F, place: &mut PageMap<F::Table>) -> Result<(
     requires turn { place.old.turn ≡ turn_of F.SLOTS (F.state flash.old).words }
     requires moves { (place.old.turn < 3) × (place.old.turn ≢ 1) × IsRing F.SLOTS (F.state flash.old).words }
     requires copies { HasCopies F.PAGES F.SLOTS (F.state flash.old).words
-        (words_of F.PAGES F.SLOTS (F.state flash.old).words) (spare_in F.SLOTS place.old.turn) F.PAGES
-        place.old.behind }
+        (words_of F.PAGES F.SLOTS (F.state flash.old).words) (base_in F.SLOTS place.old.turn)
+        (spare_in F.SLOTS place.old.turn) F.PAGES place.old.behind 0 }
     requires unready { place.old.ready ≡ false }
     ensures words { words_of F.PAGES F.SLOTS (F.state flash.new).words
         ≡ words_of F.PAGES F.SLOTS (F.state flash.old).words }
     ensures log { IsLog F.Table.entries F.PAGES F.SLOTS F.SECTORS F.sector_start (F.state flash.new).words place.new }
     ensures ready { OnOk result (place.new.ready ≡ true) }
     ensures fresh { OnOk result (HasMoved place.new place.old.behind) }
+    ensures older { OnOk result (place.new.older ≡ 0) }
+    // A close that fails may have passed the turn, so no slot counts as tried.
+    ensures unready { OnErr result ((place.new.ready ≡ false) × (place.new.tried ≡ 0)) }
+    ensures elsewhere { SameElsewhere (F.state flash.old).words (close_of F.SLOTS place.old.turn) 2
+        (F.state flash.new).words }
     ensures light { Tries 1 (F.state flash.old) (F.state flash.new) result }
     ensures work { Costs 1 2 (F.state flash.old) (F.state flash.new) }
     ensures erases { (F.state flash.new).erases ≡ (F.state flash.old).erases }
 {
     let next = spare(place.turn);
+    place.tried = 0;
     close(flash, place.turn)?;
     scan(flash, next, &mut place.table)?;
     place.turn = next;
     place.next = place.behind;
-    place.tried = 0;
     place.erased = 0;
     place.copied = 0;
     place.behind = 0;
+    place.older = 0;
     place.ready = true;
     Ok(())
 }
@@ -138,9 +155,15 @@ pub fn pass_on<F: Flash>(flash: &mut F, place: &mut PageMap<F::Table>) -> Result
     ensures log { IsLog F.Table.entries F.PAGES F.SLOTS F.SECTORS F.sector_start (F.state flash.new).words place.new }
     ensures ready { OnOk result (place.new.ready ≡ true) }
     ensures step { OnOk result (place.new
-        ≡ record place.old { ready = true; turn = 2; erased = 0; copied = 0; behind = 0 }) }
+        ≡ record place.old { ready = true; turn = 2; erased = 0; copied = 0; behind = 0; older = 0 }) }
+    ensures unready { OnErr result ((place.new.ready ≡ false) × (place.new.tried ≡ place.old.tried)) }
+    ensures older { place.new.older ≡ 0 }
     ensures area { SameElsewhere (F.state flash.old).words (close_b F.SLOTS) 4 (F.state flash.new).words }
     ensures mark { OnOk result (has_mark (F.state flash.new).words (close_b F.SLOTS) ≡ true) }
+    ensures keeps_free { KeepsFree F.PAGES F.SLOTS (F.state flash.old) (F.state flash.new) }
+    ensures stands { (extra : ℕ) → IsCaughtUp F.PAGES F.SLOTS F.SECTORS extra place.old
+        → StandsSo F.PAGES F.SLOTS F.SECTORS F.sector_start (F.state flash.new).words extra place.new
+        (HasStepped F.PAGES F.SLOTS F.SECTORS extra place.new) }
     ensures light { Tries 1 (F.state flash.old) (F.state flash.new) result }
     ensures work { Costs 2 2 (F.state flash.old) (F.state flash.new) }
     ensures erases { (F.state flash.new).erases ≤ (F.state flash.old).erases + 1 }
@@ -149,6 +172,7 @@ pub fn pass_on<F: Flash>(flash: &mut F, place: &mut PageMap<F::Table>) -> Result
     place.erased = 0;
     place.copied = 0;
     place.behind = 0;
+    place.older = 0;
     pass_witness(flash)?;
     place.turn = 2;
     place.ready = true;
@@ -166,6 +190,10 @@ fn erase_next<F: Flash>(flash: &mut F, place: &mut PageMap<F::Table>) -> Result<
     ensures log { IsLog F.Table.entries F.PAGES F.SLOTS F.SECTORS F.sector_start (F.state flash.new).words place.new }
     ensures ready { OnOk result (place.new.ready ≡ true) }
     ensures step { OnOk result (place.new ≡ record place.old { ready = true; erased = place.old.erased + 1 }) }
+    ensures older { place.new.older ≡ place.old.older }
+    ensures stands { (extra : ℕ) → IsCaughtUp F.PAGES F.SLOTS F.SECTORS extra place.old
+        → StandsSo F.PAGES F.SLOTS F.SECTORS F.sector_start (F.state flash.new).words extra place.new
+        (HasStepped F.PAGES F.SLOTS F.SECTORS extra place.new) }
     ensures light { Tries 1 (F.state flash.old) (F.state flash.new) result }
     ensures work { Costs 1 2 (F.state flash.old) (F.state flash.new) }
     ensures erases { (F.state flash.new).erases ≤ (F.state flash.old).erases + 1 }
@@ -183,18 +211,26 @@ fn copy_next<F: Flash>(flash: &mut F, place: &mut PageMap<F::Table>) -> Result<(
     requires lit { (F.state flash.old).dark ≡ false }
     requires log { IsLog F.Table.entries F.PAGES F.SLOTS F.SECTORS F.sector_start (F.state flash.old).words place.old }
     requires ready { place.old.ready ≡ true }
-    requires moves { (place.old.turn ≢ 1) × (place.old.erased ≡ F.SECTORS) }
+    requires moves { (place.old.turn ≢ 1) × (place.old.erased ≡ F.SECTORS) × (place.old.older ≡ 0) }
     ensures words { words_of F.PAGES F.SLOTS (F.state flash.new).words
         ≡ words_of F.PAGES F.SLOTS (F.state flash.old).words }
     ensures log { IsLog F.Table.entries F.PAGES F.SLOTS F.SECTORS F.sector_start (F.state flash.new).words place.new }
     ensures ready { OnOk result (place.new.ready ≡ true) }
-    ensures pace { OnOk result (IsRoomy F.PAGES F.SLOTS F.SECTORS
+    ensures older { OnOk result (place.new.older ≡ 0) }
+    ensures steps { OnOk result ((extra : ℕ)
+        → IsRoomy F.PAGES F.SLOTS F.SECTORS (extra + failed_since (F.state flash.old) (F.state flash.new))
+        → IsCaughtUp F.PAGES F.SLOTS F.SECTORS extra place.old
+        → EndsStep F.PAGES F.SLOTS F.SECTORS place.old place.new) }
+    ensures stands { (extra : ℕ)
+        → IsRoomy F.PAGES F.SLOTS F.SECTORS (extra + failed_since (F.state flash.old) (F.state flash.new))
         → F.SLOTS ≤ place.old.next + lead_of F.PAGES F.SECTORS
-        → KeepsPace F.PAGES F.SLOTS F.SECTORS place.old → (F.state flash.new).faults ≡ (F.state flash.old).faults
-        → HasStepped F.PAGES F.SLOTS F.SECTORS place.new) }
-    ensures moves_well { OnOk result (IsRoomy F.PAGES F.SLOTS F.SECTORS
-        → KeepsPace F.PAGES F.SLOTS F.SECTORS place.old → (F.state flash.new).faults ≡ (F.state flash.old).faults
-        → MovesWell F.PAGES place.old place.new) }
+        → IsCaughtUp F.PAGES F.SLOTS F.SECTORS extra place.old
+        → StandsSo F.PAGES F.SLOTS F.SECTORS F.sector_start (F.state flash.new).words
+        (extra + lost_since (F.state flash.old) (F.state flash.new)) place.new
+        (HasStepped F.PAGES F.SLOTS F.SECTORS (extra + lost_since (F.state flash.old) (F.state flash.new)) place.new) }
+    ensures moves_well { OnOk result ((extra : ℕ) → IsRoomy F.PAGES F.SLOTS F.SECTORS extra
+        → IsCaughtUp F.PAGES F.SLOTS F.SECTORS extra place.old → (F.state flash.new).faults ≡ (F.state flash.old).faults
+        → MovesWell F.PAGES extra place.old place.new) }
     ensures light { Tries 1 (F.state flash.old) (F.state flash.new) result }
     ensures work { Costs 33 2 (F.state flash.old) (F.state flash.new) }
     ensures erases { (F.state flash.new).erases ≡ (F.state flash.old).erases }
@@ -204,6 +240,7 @@ fn copy_next<F: Flash>(flash: &mut F, place: &mut PageMap<F::Table>) -> Result<(
         place.erased = 0;
         place.copied = 0;
         place.behind = 0;
+        place.older = 0;
         return Ok(());
     }
     place.ready = false;
@@ -223,21 +260,34 @@ pub fn take_step<F: Flash>(flash: &mut F, place: &mut PageMap<F::Table>) -> Resu
     requires lit { (F.state flash.old).dark ≡ false }
     requires log { IsLog F.Table.entries F.PAGES F.SLOTS F.SECTORS F.sector_start (F.state flash.old).words place.old }
     requires ready { place.old.ready ≡ true }
+    requires older { place.old.older ≡ 0 }
     ensures words { words_of F.PAGES F.SLOTS (F.state flash.new).words
         ≡ words_of F.PAGES F.SLOTS (F.state flash.old).words }
     ensures log { IsLog F.Table.entries F.PAGES F.SLOTS F.SECTORS F.sector_start (F.state flash.new).words place.new }
     ensures ready { OnOk result (place.new.ready ≡ true) }
-    ensures pace { OnOk result (IsRoomy F.PAGES F.SLOTS F.SECTORS → KeepsPace F.PAGES F.SLOTS F.SECTORS place.old
-        → (F.state flash.new).faults ≡ (F.state flash.old).faults
-        → HasStepped F.PAGES F.SLOTS F.SECTORS place.new) }
-    ensures moves_well { OnOk result (IsRoomy F.PAGES F.SLOTS F.SECTORS
-        → KeepsPace F.PAGES F.SLOTS F.SECTORS place.old → (F.state flash.new).faults ≡ (F.state flash.old).faults
-        → MovesWell F.PAGES place.old place.new) }
+    ensures older { OnOk result (place.new.older ≡ 0) }
+    ensures steps { OnOk result ((extra : ℕ)
+        → IsRoomy F.PAGES F.SLOTS F.SECTORS (extra + failed_since (F.state flash.old) (F.state flash.new))
+        → IsCaughtUp F.PAGES F.SLOTS F.SECTORS extra place.old
+        → F.SLOTS ≤ place.old.next + lead_of F.PAGES F.SECTORS
+        → EndsStep F.PAGES F.SLOTS F.SECTORS place.old place.new) }
+    ensures stands { (extra : ℕ)
+        → IsRoomy F.PAGES F.SLOTS F.SECTORS (extra + failed_since (F.state flash.old) (F.state flash.new))
+        → IsCaughtUp F.PAGES F.SLOTS F.SECTORS extra place.old
+        → StandsSo F.PAGES F.SLOTS F.SECTORS F.sector_start (F.state flash.new).words
+        (extra + lost_since (F.state flash.old) (F.state flash.new)) place.new
+        (HasStepped F.PAGES F.SLOTS F.SECTORS (extra + lost_since (F.state flash.old) (F.state flash.new)) place.new) }
+    ensures moves_well { OnOk result ((extra : ℕ) → IsRoomy F.PAGES F.SLOTS F.SECTORS extra
+        → IsCaughtUp F.PAGES F.SLOTS F.SECTORS extra place.old → (F.state flash.new).faults ≡ (F.state flash.old).faults
+        → MovesWell F.PAGES extra place.old place.new) }
     ensures light { Tries 1 (F.state flash.old) (F.state flash.new) result }
     ensures work { Costs 33 2 (F.state flash.old) (F.state flash.new) }
     ensures erases { (F.state flash.new).erases ≤ (F.state flash.old).erases + 1 }
     ensures idle { place.old.next + lead_of F.PAGES F.SECTORS < F.SLOTS
         → (place.new ≡ place.old) × (F.state flash.new ≡ F.state flash.old) }
+    ensures lost { (extra : ℕ) → (F.state flash.old).erases < (F.state flash.new).erases
+        → IsCaughtUp F.PAGES F.SLOTS F.SECTORS extra place.old
+        → IsInPace F.PAGES F.SLOTS F.SECTORS F.sector_start (F.state flash.new).words extra }
 {
     if F::SLOTS - place.next > lead::<F>() {
         return Ok(());

@@ -4,7 +4,9 @@ ghost use Rattle.std.specs.Prelude.{IfOk, IfErr, OnOk};
 ghost use Rattle.nvm_board.specs.Facts.{AreWords, IsMemory};
 ghost use Rattle.nvm_board.specs.History.{written};
 ghost use Rattle.flash_device.specs.FlashCalls.{Costs, Lights, Tries};
-ghost use Rattle.flash_log.specs.Paces.{IsRoomy, Pauses, RegainsSlots, TakesSlot, lead_of};
+ghost use Rattle.flash_log.specs.Paces.{CopiesNoPage, HasFreeSlots, IsRoomy, Pauses, RegainsSlots, RenewsOnly};
+ghost use Rattle.flash_log.specs.Paces.{TakesSlot};
+ghost use Rattle.flash_log.specs.Paces.{extra_of, failed_since, lead_of, lost_since};
 ghost use Rattle.flash_log.specs.Renewals.{HoldsOnlyPages};
 ghost use Rattle.flash_log.specs.declared.steps.TheConstants.{TRIES};
 
@@ -35,7 +37,7 @@ pub struct FlashLog<F: Flash> {
 }
 
 impl<F: Flash> Model for FlashLog<F> {
-    ghost use Rattle.flash_log.specs.Paces.{LogState, free_slots, is_fresh, is_paced};
+    ghost use Rattle.flash_log.specs.Paces.{LogState, extra_slots, free_slots, is_fresh, is_paced};
     ghost use Rattle.flash_log.specs.Places.{IsLog, state_of};
 
     ghost Value = { LogState };
@@ -43,6 +45,9 @@ impl<F: Flash> Model for FlashLog<F> {
     ghost view = { λ l. record {
       flash = state_of F.PAGES F.SLOTS (F.state l.flash);
       paced = is_paced F.PAGES F.SLOTS F.SECTORS l.place;
+      extra = extra_slots l.place;
+      ready = l.place.ready;
+      tried = l.place.tried;
       fresh = is_fresh l.place;
       free = free_slots F.SLOTS l.place;
       raw = (F.state l.flash).words;
@@ -75,6 +80,7 @@ impl<F: Flash> FlashLog<F> {
                 erased: 0,
                 copied: 0,
                 behind: 0,
+                older: 0,
             },
         }
     }
@@ -127,8 +133,17 @@ impl<F: Flash> FlashLog<F> {
 
     /// Proves that a log in pace will be in pace again behind any power-on: the flash holds all that it has to find.
     pub fn stays_in_pace(&self)
-        ensures { StandsInPace F.PAGES F.SLOTS F.SECTORS F.sector_start self.now
-            → IsInPace F.PAGES F.SLOTS F.SECTORS F.sector_start self.now.raw }
+        ensures pace { (extra : ℕ) → StandsInPace F.PAGES F.SLOTS F.SECTORS F.sector_start extra self.now
+            → IsInPace F.PAGES F.SLOTS F.SECTORS F.sector_start self.now.raw extra }
+        // A log that has yet to look for its pages has tried no slot.
+        ensures fresh { self.now.fresh ≡ true → (self.now.ready ≡ false) × (self.now.tried ≡ 0) }
+    {
+        let _ = &self.flash;
+    }
+
+    /// Proves that slots that power losses and Faults took don't count behind the move.
+    pub fn forgets_losses(&self)
+        ensures { self.now.paced ≡ true → lead_of F.PAGES F.SECTORS < self.now.free → self.now.extra ≡ 0 }
     {
         let _ = &self.flash;
     }
@@ -142,7 +157,7 @@ impl<F: Flash> FlashLog<F> {
         ensures work { self.new.flash.operations ≡ self.old.flash.operations }
         ensures erases { self.new.flash.erases ≡ self.old.flash.erases }
         ensures light { Lights self.old.flash self.new.flash result }
-        ensures paced { self.old.paced ≡ true → self.new.paced ≡ true }
+        ensures paced { self.old.paced ≡ true → (self.new.paced ≡ true) × (self.new.extra ≡ self.old.extra) }
         ensures free { self.old.free ≤ self.new.free }
         // After the first read behind a power-on, the log knows all free slots.
         ensures found { OnOk result (self.old.fresh ≡ true → FindsFree F.SLOTS self.old.raw self.new.free) }
@@ -150,13 +165,15 @@ impl<F: Flash> FlashLog<F> {
         ensures looks { self.old.fresh ≡ true
             → (self.new.fresh ≡ true) ⊎ FindsFree F.SLOTS self.old.raw self.new.free }
         // With more free slots than a move begins at, no move is under way.
-        ensures in_pace { self.old.fresh ≡ true
-            → lead_of F.PAGES F.SECTORS < self.new.free → self.new.paced ≡ true }
-        // Else it finds how far the move has come, as long as the flash was in pace.
-        ensures finds { OnOk result (StandsInPace F.PAGES F.SLOTS F.SECTORS F.sector_start self.old
-            → self.new.paced ≡ true) }
-        ensures stands { StandsInPace F.PAGES F.SLOTS F.SECTORS F.sector_start self.old
-            → StandsInPace F.PAGES F.SLOTS F.SECTORS F.sector_start self.new }
+        ensures in_pace { self.old.ready ≡ false
+            → lead_of F.PAGES F.SECTORS < self.new.free → (self.new.paced ≡ true) × (self.new.extra ≡ 0) }
+        // Else it finds how far the move has come, as long as the flash was in pace and has the slots for its losses.
+        ensures finds { OnOk result ((extra : ℕ) → extra ≤ extra_of F.PAGES F.SLOTS F.SECTORS
+            → StandsInPace F.PAGES F.SLOTS F.SECTORS F.sector_start extra self.old
+            → (self.new.paced ≡ true) × (self.new.extra ≤ extra)) }
+        ensures stands { (extra : ℕ) → extra ≤ extra_of F.PAGES F.SLOTS F.SECTORS
+            → StandsInPace F.PAGES F.SLOTS F.SECTORS F.sector_start extra self.old
+            → StandsInPace F.PAGES F.SLOTS F.SECTORS F.sector_start extra self.new }
         ensures raw { self.new.raw ≡ self.old.raw }
     {
         read_at(&mut self.flash, &mut self.place, at)
@@ -174,24 +191,40 @@ impl<F: Flash> FlashLog<F> {
         ensures light { Tries TRIES self.old.flash self.new.flash result }
         ensures work { Costs (2 * F.PAGES + 40 + F.SECTORS) (2 * F.PAGES + 42 + F.SECTORS) self.old.flash
             self.new.flash }
-        // At most one write after each write or renewal that lost power, or after a Fault, begins more than 37 programs
-        // and erases.
-        ensures pause { IsRoomy F.PAGES F.SLOTS F.SECTORS → Pauses 37 self.old.flash self.new.flash
-            (StandsInPace F.PAGES F.SLOTS F.SECTORS F.sector_start self.old) (self.new.paced ≡ true) result }
+        // In pace a write begins at most 37 programs and erases, one of them an erase, whatever else it comes to. For
+        // each Fault of the flash it begins 39 more, one of them an erase, since it's tried again.
+        ensures pause { (extra : ℕ)
+            → IsRoomy F.PAGES F.SLOTS F.SECTORS (extra + failed_since self.old.flash self.new.flash)
+            → Pauses 37 39 1 self.old.flash self.new.flash
+            (StandsInPace F.PAGES F.SLOTS F.SECTORS F.sector_start extra self.old)
+            ((self.new.paced ≡ true) × (self.new.extra ≤ extra + failed_since self.old.flash self.new.flash)) result }
         // While more free slots are known than a move begins at, and the flash doesn't fail, it takes one of them, and
         // erases nothing.
         ensures calm { lead_of F.PAGES F.SECTORS < self.old.free
             → self.new.flash.faults ≡ self.old.flash.faults
             → TakesSlot self.old.flash self.new.flash (self.old.paced ≡ true) self.old.free self.new.free result }
-        // A move in pace leaves all slots free but one for each page and each step.
-        ensures regains { OnOk result (IsRoomy F.PAGES F.SLOTS F.SECTORS
-            → self.new.flash.faults ≡ self.old.flash.faults → self.old.paced ≡ true
-            → RegainsSlots F.PAGES F.SLOTS self.old.free self.new.free) }
+        // A move in pace leaves all slots free but one for each page and each step, and those of power losses.
+        ensures regains { OnOk result ((extra : ℕ) → IsRoomy F.PAGES F.SLOTS F.SECTORS extra
+            → self.new.flash.faults ≡ self.old.flash.faults → self.old.paced ≡ true → self.old.extra ≤ extra
+            → RegainsSlots F.PAGES F.SLOTS extra self.old.free self.new.free self.new.extra) }
         // Behind a power-on too: more than the slots that were free before.
-        ensures regains_found { OnOk result (IsRoomy F.PAGES F.SLOTS F.SECTORS
+        ensures regains_found { OnOk result ((extra : ℕ) → IsRoomy F.PAGES F.SLOTS F.SECTORS extra
             → self.new.flash.faults ≡ self.old.flash.faults
-            → StandsInPace F.PAGES F.SLOTS F.SECTORS F.sector_start self.old
-            → (n : ℕ) → FindsFree F.SLOTS self.old.raw n → RegainsSlots F.PAGES F.SLOTS n self.new.free) }
+            → StandsInPace F.PAGES F.SLOTS F.SECTORS F.sector_start extra self.old
+            → (n : ℕ) → FindsFree F.SLOTS self.old.raw n
+            → RegainsSlots F.PAGES F.SLOTS extra n self.new.free self.new.extra) }
+        // A write that copies no page leaves the flash in pace at every exit, also if it loses power.
+        ensures lost { (extra : ℕ) → IsRoomy F.PAGES F.SLOTS F.SECTORS extra
+            → self.new.flash.faults ≡ self.old.flash.faults
+            → StandsInPace F.PAGES F.SLOTS F.SECTORS F.sector_start extra self.old
+            → CopiesNoPage F.PAGES F.SLOTS F.SECTORS self.old self.new
+            → IsInPace F.PAGES F.SLOTS F.SECTORS F.sector_start self.new.raw extra }
+        // Every write leaves it so, but a power loss and each Fault may take more slots of the other area.
+        ensures stands { (extra : ℕ)
+            → IsRoomy F.PAGES F.SLOTS F.SECTORS (extra + failed_since self.old.flash self.new.flash)
+            → StandsInPace F.PAGES F.SLOTS F.SECTORS F.sector_start extra self.old
+            → StandsInPace F.PAGES F.SLOTS F.SECTORS F.sector_start
+            (extra + lost_since self.old.flash self.new.flash) self.new }
     {
         write_at(&mut self.flash, &mut self.place, page, first, words)
     }
@@ -202,15 +235,31 @@ impl<F: Flash> FlashLog<F> {
         requires { self.old.flash.dark ≡ false }
         ensures words { self.new.flash.words ≡ self.old.flash.words }
         ensures only { OnOk result (HoldsOnlyPages F.PAGES F.SLOTS self.new.raw) }
-        ensures paced { OnOk result (IsRoomy F.PAGES F.SLOTS F.SECTORS
-            → self.new.flash.faults ≤ self.old.flash.faults + lead_of F.PAGES F.SECTORS → self.new.paced ≡ true) }
+        ensures paced { OnOk result (IsRoomy F.PAGES F.SLOTS F.SECTORS 0
+            → self.new.flash.faults ≤ self.old.flash.faults + lead_of F.PAGES F.SECTORS
+            → (self.new.paced ≡ true) × (self.new.extra ≡ 0)) }
         // All slots but one for each page, and one for each Fault, are free.
         ensures free { OnOk result (F.SLOTS + self.old.flash.faults
             ≤ self.new.free + F.PAGES + self.new.flash.faults) }
+        // With the slots for a move it leaves these, and the flash in pace, at every exit, also if it loses power.
+        ensures lost { F.PAGES + (self.new.flash.faults - self.old.flash.faults) + lead_of F.PAGES F.SECTORS ≤ F.SLOTS
+            → HasFreeSlots F.SLOTS (lead_of F.PAGES F.SECTORS) self.old.raw
+            → HasFreeSlots F.SLOTS (lead_of F.PAGES F.SECTORS) self.new.raw
+            × IsInPace F.PAGES F.SLOTS F.SECTORS F.sector_start self.new.raw 0 }
+        // In pace it leaves the flash in pace at every exit, as a write does: it ends a move that is under way first.
+        ensures stands { (extra : ℕ)
+            → IsRoomy F.PAGES F.SLOTS F.SECTORS (extra + failed_since self.old.flash self.new.flash)
+            → StandsInPace F.PAGES F.SLOTS F.SECTORS F.sector_start extra self.old
+            → StandsInPace F.PAGES F.SLOTS F.SECTORS F.sector_start
+            (extra + lost_since self.old.flash self.new.flash) self.new }
         ensures light { Tries 1 self.old.flash self.new.flash result }
-        ensures work { Costs (2 * F.PAGES + 5 + 2 * F.SECTORS) 2 self.old.flash self.new.flash }
-        // At most as many erases as both areas and the witness have sectors.
-        ensures erases { self.new.flash.erases ≤ self.old.flash.erases + 2 * F.SECTORS + 1 }
+        ensures work { Costs (2 * F.PAGES + 7 + 2 * F.SECTORS + 33 * lead_of F.PAGES F.SECTORS) 2 self.old.flash
+            self.new.flash }
+        ensures erases { self.new.flash.erases ≤ self.old.flash.erases + 2 * F.SECTORS + 1 + lead_of F.PAGES F.SECTORS }
+        // With the slots for a move none is under way: then at most as many erases as both areas and the witness have
+        // sectors.
+        ensures calm { HasFreeSlots F.SLOTS (lead_of F.PAGES F.SECTORS) self.old.raw
+            → RenewsOnly F.PAGES F.SECTORS self.old.flash self.new.flash }
     {
         renew_pages(&mut self.flash, &mut self.place)?;
         Ok(())
@@ -225,12 +274,15 @@ impl<F: FlashSocket> FlashLog<F> {
         ensures log { self.new ≡ record self.old {
           flash = record self.old.flash { dark = false };
           paced = false;
+          extra = 0;
+          ready = false;
+          tried = 0;
           fresh = true;
           free = 0;
         } }
         // A log in pace stays so.
-        ensures stands { StandsInPace F.PAGES F.SLOTS F.SECTORS F.sector_start self.old
-            → StandsInPace F.PAGES F.SLOTS F.SECTORS F.sector_start self.new }
+        ensures stands { (extra : ℕ) → StandsInPace F.PAGES F.SLOTS F.SECTORS F.sector_start extra self.old
+            → StandsInPace F.PAGES F.SLOTS F.SECTORS F.sector_start extra self.new }
     {
         self.place.ready = false;
         self.place.tried = 0;

@@ -1,19 +1,21 @@
 //! A renewal: it leaves nothing in the flash but the pages as they are.
-ghost use Rattle.std.specs.Prelude.{◌≡◌, ◌≢◌, ◌<◌, ◌≤◌, ◌+◌, ◌*◌, true, false, IfOk, OnOk};
+ghost use Rattle.std.specs.Prelude.{◌≡◌, ◌≢◌, ◌<◌, ◌≤◌, ◌+◌, ◌-◌, ◌*◌, ℕ, true, false, IfOk, OnErr, OnOk};
 ghost use Rattle.flash_device.specs.FlashBlocks.{area_size};
 ghost use Rattle.flash_device.specs.FlashCalls.{AreFilled, Costs, Lights, SameElsewhere, Tries};
 ghost use Rattle.flash_device.specs.FlashLogs.{base_in, words_of};
 ghost use Rattle.flash_device.specs.PageTables.{IsPageTable};
-ghost use Rattle.flash_log.specs.Paces.{IsRoomy, KeepsPace, free_slots, lead_of};
+ghost use Rattle.flash_log.specs.Paces.{HasFreeSlots, IsRoomy, KeepsFree, KeepsPace, RenewsOnly, WillKeepPace};
+ghost use Rattle.flash_log.specs.Paces.{failed_since, free_slots, lead_of, lost_since};
 ghost use Rattle.flash_log.specs.Places.{IsLog};
 ghost use Rattle.flash_area.specs.HeldPages.{HavePages, HoldsPage};
 ghost use Rattle.flash_log.specs.Renewals.{AreClean, HasLastMark, HoldsOnlyPages, IsCleanSlot};
 ghost use Rattle.flash_area.specs.Spares.{spare_in};
 ghost use Rattle.flash_device.specs.declared.flash.TheConstants.{BLANK};
 
-use crate::ahead::pass_on;
+use crate::ahead::{lead, pass_on, take_step};
 use crate::place::PageMap;
 use crate::steps::{find_pages, make_room};
+use crate::writing::copy_older;
 use flash_area::{home, is_blank, spare};
 use flash_device::{Flash, NUMBER_PLACE, PageTable, UNUSED_PLACE, erase_area, slot_at};
 use nvm_board::DeviceErr;
@@ -28,12 +30,15 @@ fn leave_turn_1<F: Flash>(flash: &mut F, place: &mut PageMap<F::Table>) -> Resul
     ensures log { IsLog F.Table.entries F.PAGES F.SLOTS F.SECTORS F.sector_start (F.state flash.new).words place.new }
     ensures ready { OnOk result (place.new.ready ≡ true) }
     ensures turn { OnOk result (place.new.turn ≢ 1) }
+    ensures unready { OnErr result (place.new.ready ≡ false) }
     ensures next { OnOk result (place.new.next ≡ place.old.next) }
+    ensures tried { place.new.tried ≡ place.old.tried }
     ensures have { OnOk result (HavePages F.PAGES F.SLOTS (F.state flash.old).words
         (base_in F.SLOTS place.old.turn) place.old.next
         → HavePages F.PAGES F.SLOTS (F.state flash.new).words (base_in F.SLOTS place.new.turn) place.new.next) }
     ensures last { OnOk result (HasLastMark F.SLOTS (F.state flash.old).words place.old.turn
         → HasLastMark F.SLOTS (F.state flash.new).words place.new.turn) }
+    ensures keeps_free { KeepsFree F.PAGES F.SLOTS (F.state flash.old) (F.state flash.new) }
     ensures light { Tries 1 (F.state flash.old) (F.state flash.new) result }
     ensures work { Costs 2 2 (F.state flash.old) (F.state flash.new) }
     ensures erases { (F.state flash.new).erases ≤ (F.state flash.old).erases + 1 }
@@ -50,19 +55,22 @@ fn leave_turn_1<F: Flash>(flash: &mut F, place: &mut PageMap<F::Table>) -> Resul
 fn move_pages<F: Flash>(flash: &mut F, place: &mut PageMap<F::Table>) -> Result<(), DeviceErr>
     requires lit { (F.state flash.old).dark ≡ false }
     requires log { IsLog F.Table.entries F.PAGES F.SLOTS F.SECTORS F.sector_start (F.state flash.old).words place.old }
+    requires ready { place.old.ready ≡ true }
     ensures words { words_of F.PAGES F.SLOTS (F.state flash.new).words
         ≡ words_of F.PAGES F.SLOTS (F.state flash.old).words }
     ensures log { IsLog F.Table.entries F.PAGES F.SLOTS F.SECTORS F.sector_start (F.state flash.new).words place.new }
     ensures ready { OnOk result ((place.new.ready ≡ true) × (place.new.turn ≢ 1)) }
+    ensures unready { OnErr result (place.new.ready ≡ false) }
+    ensures tried { place.new.tried ≡ 0 }
     ensures have { OnOk result ((F.state flash.new).faults ≡ (F.state flash.old).faults
         → HavePages F.PAGES F.SLOTS (F.state flash.new).words (base_in F.SLOTS place.new.turn) place.new.next) }
     ensures last { OnOk result (HasLastMark F.SLOTS (F.state flash.new).words place.new.turn) }
     ensures passes { OnOk result (place.new.next + (F.state flash.old).faults ≤ F.PAGES + (F.state flash.new).faults) }
+    ensures keeps_free { KeepsFree F.PAGES F.SLOTS (F.state flash.old) (F.state flash.new) }
     ensures light { Tries 1 (F.state flash.old) (F.state flash.new) result }
     ensures work { Costs (2 * F.PAGES + 5 + F.SECTORS) 2 (F.state flash.old) (F.state flash.new) }
     ensures erases { (F.state flash.new).erases ≤ (F.state flash.old).erases + F.SECTORS + 1 }
 {
-    find_pages(flash, place)?;
     // To `make_room`, the area in use is full.
     place.next = F::SLOTS;
     make_room(flash, place)?;
@@ -79,11 +87,14 @@ fn erase_spare<F: Flash>(flash: &mut F, place: &mut PageMap<F::Table>) -> Result
         ≡ words_of F.PAGES F.SLOTS (F.state flash.old).words }
     ensures log { IsLog F.Table.entries F.PAGES F.SLOTS F.SECTORS F.sector_start (F.state flash.new).words place.new }
     ensures step { OnOk result (place.new
-        ≡ record place.old { ready = true; erased = F.SECTORS; copied = 0; behind = 0 }) }
+        ≡ record place.old { ready = true; erased = F.SECTORS; copied = 0; behind = 0; older = 0 }) }
+    ensures unready { OnErr result (place.new.ready ≡ false) }
+    ensures tried { place.new.tried ≡ place.old.tried }
     ensures blank { OnOk result (AreFilled (F.state flash.new).words (spare_in F.SLOTS place.old.turn)
         (area_size F.SLOTS) BLANK) }
     ensures elsewhere { SameElsewhere (F.state flash.old).words (spare_in F.SLOTS place.old.turn) (area_size F.SLOTS)
         (F.state flash.new).words }
+    ensures keeps_free { KeepsFree F.PAGES F.SLOTS (F.state flash.old) (F.state flash.new) }
     ensures light { Tries 1 (F.state flash.old) (F.state flash.new) result }
     ensures work { Costs F.SECTORS 2 (F.state flash.old) (F.state flash.new) }
     ensures erases { (F.state flash.new).erases ≤ (F.state flash.old).erases + F.SECTORS }
@@ -93,6 +104,7 @@ fn erase_spare<F: Flash>(flash: &mut F, place: &mut PageMap<F::Table>) -> Result
     place.erased = F::SECTORS;
     place.copied = 0;
     place.behind = 0;
+    place.older = 0;
     place.ready = true;
     Ok(())
 }
@@ -157,20 +169,63 @@ fn are_clean<F: Flash>(
     Ok(true)
 }
 
-/// Leaves nothing in the flash but the pages as they are. At every exit they are the same. A slot in which the flash
-/// failed may hold a part of a page: then it's a Fault.
-pub fn renew_pages<F: Flash>(flash: &mut F, place: &mut PageMap<F::Table>) -> Result<(), DeviceErr>
+/// Looks for the pages anew, and ends the move that is under way if the area in use has no room for another.
+fn end_move<F: Flash>(flash: &mut F, place: &mut PageMap<F::Table>) -> Result<(), DeviceErr>
     requires lit { (F.state flash.old).dark ≡ false }
     requires log { IsLog F.Table.entries F.PAGES F.SLOTS F.SECTORS F.sector_start (F.state flash.old).words place.old }
     ensures words { words_of F.PAGES F.SLOTS (F.state flash.new).words
         ≡ words_of F.PAGES F.SLOTS (F.state flash.old).words }
     ensures log { IsLog F.Table.entries F.PAGES F.SLOTS F.SECTORS F.sector_start (F.state flash.new).words place.new }
+    ensures ready { OnOk result (place.new.ready ≡ true) }
+    ensures calm { HasFreeSlots F.SLOTS (lead_of F.PAGES F.SECTORS) (F.state flash.old).words
+        → ((F.state flash.new).words ≡ (F.state flash.old).words)
+        × ((F.state flash.new).operations ≡ (F.state flash.old).operations)
+        × ((F.state flash.new).erases ≡ (F.state flash.old).erases) }
+    ensures room { OnOk result ((extra : ℕ)
+        → IsRoomy F.PAGES F.SLOTS F.SECTORS (extra + failed_since (F.state flash.old) (F.state flash.new))
+        → WillKeepPace F.PAGES F.SLOTS F.SECTORS F.sector_start (F.state flash.old).words extra place.old
+        → HasFreeSlots F.SLOTS (lead_of F.PAGES F.SECTORS) (F.state flash.new).words) }
+    ensures stands { (extra : ℕ)
+        → IsRoomy F.PAGES F.SLOTS F.SECTORS (extra + failed_since (F.state flash.old) (F.state flash.new))
+        → WillKeepPace F.PAGES F.SLOTS F.SECTORS F.sector_start (F.state flash.old).words extra place.old
+        → WillKeepPace F.PAGES F.SLOTS F.SECTORS F.sector_start (F.state flash.new).words
+        (extra + lost_since (F.state flash.old) (F.state flash.new)) place.new }
+    ensures light { Tries 1 (F.state flash.old) (F.state flash.new) result }
+    ensures work { Costs (2 + 33 * lead_of F.PAGES F.SECTORS) 2 (F.state flash.old) (F.state flash.new) }
+    ensures erases { (F.state flash.new).erases ≤ (F.state flash.old).erases + lead_of F.PAGES F.SECTORS }
+{
+    place.ready = false;
+    place.tried = 0;
+    find_pages(flash, place)?;
+    if F::SLOTS - place.next >= lead::<F>() {
+        return Ok(());
+    }
+    copy_older(flash, place)?;
+    for _ in 0..lead::<F>() {
+        take_step(flash, place)?;
+    }
+    Ok(())
+}
+
+/// Moves all pages to the other area, and erases the one that they leave.
+fn leave_area<F: Flash>(flash: &mut F, place: &mut PageMap<F::Table>) -> Result<(), DeviceErr>
+    requires lit { (F.state flash.old).dark ≡ false }
+    requires log { IsLog F.Table.entries F.PAGES F.SLOTS F.SECTORS F.sector_start (F.state flash.old).words place.old }
+    requires ready { place.old.ready ≡ true }
+    ensures words { words_of F.PAGES F.SLOTS (F.state flash.new).words
+        ≡ words_of F.PAGES F.SLOTS (F.state flash.old).words }
+    ensures log { IsLog F.Table.entries F.PAGES F.SLOTS F.SECTORS F.sector_start (F.state flash.new).words place.new }
     ensures only { OnOk result (HoldsOnlyPages F.PAGES F.SLOTS (F.state flash.new).words) }
-    ensures pace { OnOk result (IsRoomy F.PAGES F.SLOTS F.SECTORS
+    ensures pace { OnOk result (IsRoomy F.PAGES F.SLOTS F.SECTORS 0
         → (F.state flash.new).faults ≤ (F.state flash.old).faults + lead_of F.PAGES F.SECTORS
-        → KeepsPace F.PAGES F.SLOTS F.SECTORS place.new) }
+        → KeepsPace F.PAGES F.SLOTS F.SECTORS 0 place.new) }
     ensures free { OnOk result (F.SLOTS + (F.state flash.old).faults
         ≤ free_slots F.SLOTS place.new + F.PAGES + (F.state flash.new).faults) }
+    ensures keeps_free { KeepsFree F.PAGES F.SLOTS (F.state flash.old) (F.state flash.new) }
+    // With the slots for a move it is in pace at every exit.
+    ensures stands { F.PAGES + ((F.state flash.new).faults - (F.state flash.old).faults) + lead_of F.PAGES F.SECTORS
+        ≤ F.SLOTS → HasFreeSlots F.SLOTS (lead_of F.PAGES F.SECTORS) (F.state flash.old).words
+        → WillKeepPace F.PAGES F.SLOTS F.SECTORS F.sector_start (F.state flash.new).words 0 place.new }
     ensures light { Tries 1 (F.state flash.old) (F.state flash.new) result }
     ensures work { Costs (2 * F.PAGES + 5 + 2 * F.SECTORS) 2 (F.state flash.old) (F.state flash.new) }
     ensures erases { (F.state flash.new).erases ≤ (F.state flash.old).erases + 2 * F.SECTORS + 1 }
@@ -181,4 +236,38 @@ pub fn renew_pages<F: Flash>(flash: &mut F, place: &mut PageMap<F::Table>) -> Re
         return Ok(());
     }
     Err(DeviceErr::Fault)
+}
+
+/// Leaves nothing in the flash but the pages as they are. At every exit they are the same. A slot in which the flash
+/// failed may hold a part of a page: then it's a Fault.
+pub fn renew_pages<F: Flash>(flash: &mut F, place: &mut PageMap<F::Table>) -> Result<(), DeviceErr>
+    requires lit { (F.state flash.old).dark ≡ false }
+    requires log { IsLog F.Table.entries F.PAGES F.SLOTS F.SECTORS F.sector_start (F.state flash.old).words place.old }
+    ensures words { words_of F.PAGES F.SLOTS (F.state flash.new).words
+        ≡ words_of F.PAGES F.SLOTS (F.state flash.old).words }
+    ensures log { IsLog F.Table.entries F.PAGES F.SLOTS F.SECTORS F.sector_start (F.state flash.new).words place.new }
+    ensures only { OnOk result (HoldsOnlyPages F.PAGES F.SLOTS (F.state flash.new).words) }
+    ensures pace { OnOk result (IsRoomy F.PAGES F.SLOTS F.SECTORS 0
+        → (F.state flash.new).faults ≤ (F.state flash.old).faults + lead_of F.PAGES F.SECTORS
+        → KeepsPace F.PAGES F.SLOTS F.SECTORS 0 place.new) }
+    ensures free { OnOk result (F.SLOTS + (F.state flash.old).faults
+        ≤ free_slots F.SLOTS place.new + F.PAGES + (F.state flash.new).faults) }
+    ensures keeps_free { HasFreeSlots F.SLOTS (lead_of F.PAGES F.SECTORS) (F.state flash.old).words
+        → KeepsFree F.PAGES F.SLOTS (F.state flash.old) (F.state flash.new) }
+    ensures stands { (extra : ℕ)
+        → IsRoomy F.PAGES F.SLOTS F.SECTORS (extra + failed_since (F.state flash.old) (F.state flash.new))
+        → WillKeepPace F.PAGES F.SLOTS F.SECTORS F.sector_start (F.state flash.old).words extra place.old
+        → WillKeepPace F.PAGES F.SLOTS F.SECTORS F.sector_start (F.state flash.new).words
+        (extra + lost_since (F.state flash.old) (F.state flash.new)) place.new }
+    ensures light { Tries 1 (F.state flash.old) (F.state flash.new) result }
+    ensures work { Costs (2 * F.PAGES + 7 + 2 * F.SECTORS + 33 * lead_of F.PAGES F.SECTORS) 2 (F.state flash.old)
+        (F.state flash.new) }
+    ensures erases { (F.state flash.new).erases
+        ≤ (F.state flash.old).erases + 2 * F.SECTORS + 1 + lead_of F.PAGES F.SECTORS }
+    ensures calm { HasFreeSlots F.SLOTS (lead_of F.PAGES F.SECTORS) (F.state flash.old).words
+        → RenewsOnly F.PAGES F.SECTORS (F.state flash.old) (F.state flash.new) }
+{
+    end_move(flash, place)?;
+    leave_area(flash, place)?;
+    Ok(())
 }

@@ -1,15 +1,17 @@
 //! The steps of a read and a write of the log.
 ghost use Rattle.std.specs.Prelude.{◌≡◌, ◌⊎◌, ◌<◌, ◌≤◌, ◌+◌, ◌*◌, ℕ, true, false, length, slice_index, IfOk, OnOk};
+ghost use Rattle.std.specs.Prelude.{OnErr};
 ghost use Rattle.nvm_board.specs.History.{written};
 ghost use Rattle.flash_device.specs.FlashCalls.{Costs, Lights, Tries};
 ghost use Rattle.flash_device.specs.FlashLogs.{base_in, turn_of, words_of};
-ghost use Rattle.flash_device.specs.PageTables.{IsPageTable};
-ghost use Rattle.flash_log.specs.Paces.{HasStepped, HasMoved, HasNoStepDue, IsRoomy, KeepsPace, Pauses, TakesSlot};
-ghost use Rattle.flash_log.specs.Paces.{MovesFound, MovesWell, RegainsSlots, WillKeepPace};
-ghost use Rattle.flash_log.specs.Paces.{free_slots, is_fresh, lead_of};
+ghost use Rattle.flash_device.specs.PageTables.{AreFree, IsPageTable};
+ghost use Rattle.flash_log.specs.Paces.{CopiesNoPageAt, HasStepped, HasMoved, HasNoStepDue, IsInPace, IsRoomy};
+ghost use Rattle.flash_log.specs.Paces.{KeepsFree, KeepsPace, MovesFound, MovesWell, Pauses, RegainsSlots, TakesSlot};
+ghost use Rattle.flash_log.specs.Paces.{IsBeforeMove, IsCaughtUp, WillKeepPace, extra_of, extra_slots, free_slots};
+ghost use Rattle.flash_log.specs.Paces.{StandsSo, failed_since, is_fresh, lead_of, lost_since};
 ghost use Rattle.flash_log.specs.Places.{FindsFree, IsLog, IsPlaceOf};
 ghost use Rattle.flash_area.specs.HeldPages.{HavePages};
-ghost use Rattle.flash_area.specs.Spares.{IsFurthest, IsSpare};
+ghost use Rattle.flash_area.specs.Spares.{IsSpare, KeepsSectors, KeepsSteps, copies_most};
 ghost use Rattle.flash_log.specs.Renewals.{HasLastMark};
 ghost use Rattle.flash_log.specs.declared.steps.TheConstants.{TRIES};
 ghost use Rattle.flash_device.specs.declared.layout.TheConstants.{STEP_PAGES};
@@ -17,9 +19,9 @@ ghost use Rattle.flash_device.specs.declared.layout.TheConstants.{STEP_PAGES};
 use crate::ahead::{lead, take_step};
 use crate::place::PageMap;
 use crate::turns::{find_turn, move_to_a, move_to_b, pass_witness};
-use crate::writing::{write_ahead, write_run};
-use flash_area::{Progress, find_progress, home, read_page_word, scan};
-use flash_device::Flash;
+use crate::writing::{copy_older, write_run};
+use flash_area::{Progress, find_progress, home, older_page, read_page_word, scan};
+use flash_device::{Flash, copy_steps};
 use nvm_board::DeviceErr;
 
 /// The number of times that a write is tried, until a Fault of the flash is returned.
@@ -29,14 +31,20 @@ pub const TRIES: u8 = 8;
 fn later<F: Flash>(next: u16, tried: u16) -> u16
     requires { next ≤ F.SLOTS }
     ensures least { next ≤ result }
+    ensures passed { (tried ≤ result) ⊎ (result ≡ F.SLOTS) }
     ensures most { result ≤ F.SLOTS }
-    ensures none { tried ≡ 0 → result ≡ next }
+    ensures none { tried ≤ next → result ≡ next }
+    ensures is { tried ≤ F.SLOTS → next ≤ tried → result ≡ tried }
 {
-    if next < tried && tried <= F::SLOTS {
-        tried
-    } else {
-        next
-    }
+    next.max(tried.min(F::SLOTS))
+}
+
+/// The number of slots that steps of a move may take which lose power: those that are left of an area behind all pages,
+/// one for each step, and the lead of the next move.
+fn extra<F: Flash>() -> u16
+    ensures { result ≡ extra_of F.PAGES F.SLOTS F.SECTORS }
+{
+    F::SLOTS.saturating_sub(F::PAGES + copy_steps::<F>() + lead::<F>())
 }
 
 /// Finds how far the move has come. While it isn't due, that is not looked for: it has not begun.
@@ -52,11 +60,13 @@ fn progress_at<F: Flash>(
         (F.Table.entries table.now) }
     requires next { next ≤ F.SLOTS }
     ensures spare { IfOk result (λ r. IsSpare F.PAGES F.SLOTS F.SECTORS F.sector_start (F.state flash.old).words
-        (words_of F.PAGES F.SLOTS (F.state flash.old).words) turn r.erased r.copied r.behind) }
-    ensures few { IfOk result (λ r. r.behind ≤ (STEP_PAGES + 1) * r.copied) }
-    ensures due { IfOk result (λ r. 0 < r.copied → F.SLOTS ≤ next + lead_of F.PAGES F.SECTORS) }
-    ensures best { IfOk result (λ r. F.SLOTS ≤ next + lead_of F.PAGES F.SECTORS
-        → IsFurthest F.PAGES F.SLOTS F.SECTORS F.sector_start (F.state flash.old).words turn r.erased r.copied) }
+        (words_of F.PAGES F.SLOTS (F.state flash.old).words) turn r.erased r.copied r.behind r.older) }
+    ensures few { IfOk result (λ r. r.behind ≤ copies_most r.copied (extra_of F.PAGES F.SLOTS F.SECTORS)) }
+    ensures idle { IfOk result (λ r. next + lead_of F.PAGES F.SECTORS < F.SLOTS → (r.copied ≡ 0) × (r.behind ≡ 0)) }
+    ensures keeps { IfOk result (λ r. KeepsSteps F.PAGES F.SLOTS F.SECTORS F.sector_start (F.state flash.old).words
+        turn next (extra_of F.PAGES F.SLOTS F.SECTORS) r.erased r.copied r.behind) }
+    ensures blank { IfOk result (λ r. F.SLOTS ≤ next + lead_of F.PAGES F.SECTORS → KeepsSectors F.PAGES F.SLOTS
+        F.SECTORS F.sector_start (F.state flash.old).words turn r.erased) }
     ensures words { (F.state flash.new).words ≡ (F.state flash.old).words }
     ensures work { (F.state flash.new).operations ≡ (F.state flash.old).operations }
     ensures erases { (F.state flash.new).erases ≡ (F.state flash.old).erases }
@@ -67,9 +77,10 @@ fn progress_at<F: Flash>(
             erased: 0,
             copied: 0,
             behind: 0,
+            older: 0,
         });
     }
-    let progress = find_progress(flash, turn, table)?;
+    let progress = find_progress(flash, turn, table, next, extra::<F>())?;
     Ok(progress)
 }
 
@@ -82,32 +93,73 @@ pub fn find_pages<F: Flash>(flash: &mut F, place: &mut PageMap<F::Table>) -> Res
     ensures erases { (F.state flash.new).erases ≡ (F.state flash.old).erases }
     ensures log { IsLog F.Table.entries F.PAGES F.SLOTS F.SECTORS F.sector_start (F.state flash.new).words place.new }
     ensures ready { OnOk result (place.new.ready ≡ true) }
+    ensures unready { OnErr result (place.new.ready ≡ false) }
     ensures known { place.old.ready ≡ true → place.new ≡ place.old }
     ensures found { OnOk result (place.old.ready ≡ false → place.old.tried ≡ 0
         → FindsFree F.SLOTS (F.state flash.old).words (free_slots F.SLOTS place.new)) }
     ensures looks { is_fresh place.old ≡ true → (is_fresh place.new ≡ true)
         ⊎ FindsFree F.SLOTS (F.state flash.old).words (free_slots F.SLOTS place.new) }
-    ensures paced { place.old.ready ≡ false → lead_of F.PAGES F.SECTORS < free_slots F.SLOTS place.new
-        → KeepsPace F.PAGES F.SLOTS F.SECTORS place.new }
-    ensures in_pace { OnOk result (WillKeepPace F.PAGES F.SLOTS F.SECTORS F.sector_start (F.state flash.old).words
-        place.old → KeepsPace F.PAGES F.SLOTS F.SECTORS place.new) }
-    ensures stands { WillKeepPace F.PAGES F.SLOTS F.SECTORS F.sector_start (F.state flash.old).words place.old
-        → WillKeepPace F.PAGES F.SLOTS F.SECTORS F.sector_start (F.state flash.new).words place.new }
+    ensures paced { (extra : ℕ) → place.old.ready ≡ false → lead_of F.PAGES F.SECTORS < free_slots F.SLOTS place.new
+        → KeepsPace F.PAGES F.SLOTS F.SECTORS extra place.new }
+    ensures in_pace { OnOk result ((extra : ℕ) → extra ≤ extra_of F.PAGES F.SLOTS F.SECTORS
+        → WillKeepPace F.PAGES F.SLOTS F.SECTORS F.sector_start (F.state flash.old).words extra place.old
+        → KeepsPace F.PAGES F.SLOTS F.SECTORS extra place.new) }
+    ensures stands { (extra : ℕ) → extra ≤ extra_of F.PAGES F.SLOTS F.SECTORS
+        → WillKeepPace F.PAGES F.SLOTS F.SECTORS F.sector_start (F.state flash.old).words extra place.old
+        → WillKeepPace F.PAGES F.SLOTS F.SECTORS F.sector_start (F.state flash.new).words extra place.new }
     ensures light { Lights (F.state flash.old) (F.state flash.new) result }
 {
     if place.ready {
         return Ok(());
     }
     let turn = find_turn(flash)?;
-    let next = scan(flash, home(turn), &mut place.table)?;
+    let first = scan(flash, home(turn), &mut place.table)?;
+    let next = later::<F>(first, place.tried);
     let progress = progress_at(flash, turn, &place.table, next)?;
     place.turn = turn;
-    place.next = later::<F>(next, place.tried);
+    place.next = next;
     place.erased = progress.erased;
     place.copied = progress.copied;
     place.behind = progress.behind;
+    place.older = progress.older;
     place.ready = true;
     Ok(())
+}
+
+/// Finds the pages, and copies the page again whose copy may be older.
+fn catch_up<F: Flash>(flash: &mut F, place: &mut PageMap<F::Table>) -> Result<(), DeviceErr>
+    requires lit { (F.state flash.old).dark ≡ false }
+    requires log { IsLog F.Table.entries F.PAGES F.SLOTS F.SECTORS F.sector_start (F.state flash.old).words place.old }
+    ensures words { words_of F.PAGES F.SLOTS (F.state flash.new).words
+        ≡ words_of F.PAGES F.SLOTS (F.state flash.old).words }
+    ensures log { IsLog F.Table.entries F.PAGES F.SLOTS F.SECTORS F.sector_start (F.state flash.new).words place.new }
+    ensures ready { OnOk result (place.new.ready ≡ true) }
+    ensures unready { OnErr result (place.new.ready ≡ false) }
+    ensures older { OnOk result (place.new.older ≡ 0) }
+    ensures next { place.old.ready ≡ true → place.new.next ≡ place.old.next }
+    ensures found { OnOk result (place.old.ready ≡ false → place.old.tried ≡ 0
+        → FindsFree F.SLOTS (F.state flash.old).words (free_slots F.SLOTS place.new)) }
+    ensures free { OnOk result (AreFree (F.state flash.old).words
+        (base_in F.SLOTS (turn_of F.SLOTS (F.state flash.old).words)) place.new.next F.SLOTS) }
+    ensures stands { (extra : ℕ)
+        → IsRoomy F.PAGES F.SLOTS F.SECTORS (extra + failed_since (F.state flash.old) (F.state flash.new))
+        → WillKeepPace F.PAGES F.SLOTS F.SECTORS F.sector_start (F.state flash.old).words extra place.old
+        → StandsSo F.PAGES F.SLOTS F.SECTORS F.sector_start (F.state flash.new).words
+        (extra + lost_since (F.state flash.old) (F.state flash.new)) place.new
+        (IsCaughtUp F.PAGES F.SLOTS F.SECTORS (extra + lost_since (F.state flash.old) (F.state flash.new)) place.new) }
+    ensures lost { (extra : ℕ) → IsRoomy F.PAGES F.SLOTS F.SECTORS extra
+        → WillKeepPace F.PAGES F.SLOTS F.SECTORS F.sector_start (F.state flash.old).words extra place.old
+        → IsBeforeMove F.PAGES F.SLOTS F.SECTORS (free_slots F.SLOTS place.old) (is_fresh place.old)
+        (F.state flash.old).words
+        → IsInPace F.PAGES F.SLOTS F.SECTORS F.sector_start (F.state flash.new).words extra }
+    ensures idle { place.old.ready ≡ true → place.old.copied ≡ 0
+        → (F.state flash.new).operations ≡ (F.state flash.old).operations }
+    ensures light { Tries 1 (F.state flash.old) (F.state flash.new) result }
+    ensures work { Costs 2 2 (F.state flash.old) (F.state flash.new) }
+    ensures erases { (F.state flash.new).erases ≡ (F.state flash.old).erases }
+{
+    find_pages(flash, place)?;
+    copy_older(flash, place)
 }
 
 /// Makes room for a record.
@@ -119,6 +171,9 @@ pub fn make_room<F: Flash>(flash: &mut F, place: &mut PageMap<F::Table>) -> Resu
         ≡ words_of F.PAGES F.SLOTS (F.state flash.old).words }
     ensures log { IsLog F.Table.entries F.PAGES F.SLOTS F.SECTORS F.sector_start (F.state flash.new).words place.new }
     ensures ready { OnOk result (place.new.ready ≡ true) }
+    ensures older { place.old.older ≡ 0 → place.new.older ≡ 0 }
+    ensures unready { OnErr result (place.new.ready ≡ false) }
+    ensures tried { F.SLOTS ≤ place.old.next → place.new.tried ≡ 0 }
     ensures room { OnOk result (place.new.next < F.SLOTS) }
     ensures same { place.old.next < F.SLOTS → (place.new ≡ place.old) × (F.state flash.new ≡ F.state flash.old) }
     ensures fresh { OnOk result (F.SLOTS ≤ place.old.next
@@ -130,6 +185,7 @@ pub fn make_room<F: Flash>(flash: &mut F, place: &mut PageMap<F::Table>) -> Resu
         → HavePages F.PAGES F.SLOTS (F.state flash.new).words (base_in F.SLOTS place.new.turn) place.new.next) }
     ensures last { OnOk result (F.SLOTS ≤ place.old.next
         → HasLastMark F.SLOTS (F.state flash.new).words place.new.turn) }
+    ensures keeps_free { KeepsFree F.PAGES F.SLOTS (F.state flash.old) (F.state flash.new) }
     ensures light { Tries 1 (F.state flash.old) (F.state flash.new) result }
     ensures work { Costs (2 * F.PAGES + 3 + F.SECTORS) 2 (F.state flash.old) (F.state flash.new) }
     ensures erases { (F.state flash.new).erases ≤ (F.state flash.old).erases + F.SECTORS + 1 }
@@ -144,6 +200,7 @@ pub fn make_room<F: Flash>(flash: &mut F, place: &mut PageMap<F::Table>) -> Resu
     place.erased = 0;
     place.copied = 0;
     place.behind = 0;
+    place.older = 0;
     if place.turn == 0 {
         let free_in_b = move_to_b(flash, &mut place.table)?;
         place.turn = 1;
@@ -161,7 +218,7 @@ pub fn make_room<F: Flash>(flash: &mut F, place: &mut PageMap<F::Table>) -> Resu
     Ok(())
 }
 
-/// Makes ready for a write: finds the pages, takes a step of the move, and makes room.
+/// Makes ready for a write: finds the pages, copies an older one again, takes a step of the move, and makes room.
 fn prepare<F: Flash>(flash: &mut F, place: &mut PageMap<F::Table>) -> Result<(), DeviceErr>
     requires lit { (F.state flash.old).dark ≡ false }
     requires log { IsLog F.Table.entries F.PAGES F.SLOTS F.SECTORS F.sector_start (F.state flash.old).words place.old }
@@ -169,31 +226,40 @@ fn prepare<F: Flash>(flash: &mut F, place: &mut PageMap<F::Table>) -> Result<(),
         ≡ words_of F.PAGES F.SLOTS (F.state flash.old).words }
     ensures log { IsLog F.Table.entries F.PAGES F.SLOTS F.SECTORS F.sector_start (F.state flash.new).words place.new }
     ensures ready { OnOk result (place.new.ready ≡ true) }
-    ensures room { OnOk result ((place.new.next < F.SLOTS) × (place.new.behind < F.SLOTS)) }
+    ensures older { OnOk result (place.new.older ≡ 0) }
+    ensures room { OnOk result (place.new.next < F.SLOTS) }
     ensures light { Tries 1 (F.state flash.old) (F.state flash.new) result }
-    ensures work { Costs (2 * F.PAGES + 36 + F.SECTORS) 2 (F.state flash.old) (F.state flash.new) }
-    ensures pause { IsRoomy F.PAGES F.SLOTS F.SECTORS → Pauses 33 (F.state flash.old) (F.state flash.new)
-        (WillKeepPace F.PAGES F.SLOTS F.SECTORS F.sector_start (F.state flash.old).words place.old)
-        (HasStepped F.PAGES F.SLOTS F.SECTORS place.new) result }
-    ensures moves_well { OnOk result (IsRoomy F.PAGES F.SLOTS F.SECTORS
+    ensures work { Costs (2 * F.PAGES + 38 + F.SECTORS) 2 (F.state flash.old) (F.state flash.new) }
+    ensures pause { (extra : ℕ)
+        → IsRoomy F.PAGES F.SLOTS F.SECTORS (extra + failed_since (F.state flash.old) (F.state flash.new))
+        → Pauses 35 2 0 (F.state flash.old) (F.state flash.new)
+        (WillKeepPace F.PAGES F.SLOTS F.SECTORS F.sector_start (F.state flash.old).words extra place.old)
+        (HasStepped F.PAGES F.SLOTS F.SECTORS (extra + failed_since (F.state flash.old) (F.state flash.new)) place.new)
+        result }
+    ensures moves_well { OnOk result ((extra : ℕ) → IsRoomy F.PAGES F.SLOTS F.SECTORS extra
         → (F.state flash.new).faults ≡ (F.state flash.old).faults
-        → KeepsPace F.PAGES F.SLOTS F.SECTORS place.old → MovesWell F.PAGES place.old place.new) }
-    ensures moves_found { OnOk result (IsRoomy F.PAGES F.SLOTS F.SECTORS
+        → KeepsPace F.PAGES F.SLOTS F.SECTORS extra place.old → MovesWell F.PAGES extra place.old place.new) }
+    ensures moves_found { OnOk result ((extra : ℕ) → IsRoomy F.PAGES F.SLOTS F.SECTORS extra
         → (F.state flash.new).faults ≡ (F.state flash.old).faults
-        → WillKeepPace F.PAGES F.SLOTS F.SECTORS F.sector_start (F.state flash.old).words place.old
-        → (n : ℕ) → FindsFree F.SLOTS (F.state flash.old).words n → MovesFound F.PAGES F.SLOTS n place.new) }
+        → WillKeepPace F.PAGES F.SLOTS F.SECTORS F.sector_start (F.state flash.old).words extra place.old
+        → (n : ℕ) → FindsFree F.SLOTS (F.state flash.old).words n → MovesFound F.PAGES F.SLOTS extra n place.new) }
     ensures idle { place.old.ready ≡ true → place.old.next + lead_of F.PAGES F.SECTORS < F.SLOTS
         → HasNoStepDue (F.state flash.old) (F.state flash.new) place.old place.new }
+    ensures lost { (extra : ℕ) → IsRoomy F.PAGES F.SLOTS F.SECTORS extra
+        → (F.state flash.new).faults ≡ (F.state flash.old).faults
+        → WillKeepPace F.PAGES F.SLOTS F.SECTORS F.sector_start (F.state flash.old).words extra place.old
+        → CopiesNoPageAt F.PAGES F.SLOTS F.SECTORS (F.state flash.old) place.old (F.state flash.new)
+        → IsInPace F.PAGES F.SLOTS F.SECTORS F.sector_start (F.state flash.new).words extra }
+    ensures stands { (extra : ℕ)
+        → IsRoomy F.PAGES F.SLOTS F.SECTORS (extra + failed_since (F.state flash.old) (F.state flash.new))
+        → WillKeepPace F.PAGES F.SLOTS F.SECTORS F.sector_start (F.state flash.old).words extra place.old
+        → StandsSo F.PAGES F.SLOTS F.SECTORS F.sector_start (F.state flash.new).words
+        (extra + lost_since (F.state flash.old) (F.state flash.new)) place.new
+        (HasStepped F.PAGES F.SLOTS F.SECTORS (extra + lost_since (F.state flash.old) (F.state flash.new)) place.new) }
 {
-    find_pages(flash, place)?;
+    catch_up(flash, place)?;
     take_step(flash, place)?;
     make_room(flash, place)?;
-    if place.behind < F::SLOTS {
-        return Ok(());
-    }
-    place.erased = 0;
-    place.copied = 0;
-    place.behind = 0;
     Ok(())
 }
 
@@ -216,12 +282,14 @@ pub fn read_at<F: Flash>(
         → FindsFree F.SLOTS (F.state flash.old).words (free_slots F.SLOTS place.new)) }
     ensures looks { is_fresh place.old ≡ true → (is_fresh place.new ≡ true)
         ⊎ FindsFree F.SLOTS (F.state flash.old).words (free_slots F.SLOTS place.new) }
-    ensures paced { place.old.ready ≡ false → lead_of F.PAGES F.SECTORS < free_slots F.SLOTS place.new
-        → KeepsPace F.PAGES F.SLOTS F.SECTORS place.new }
-    ensures in_pace { OnOk result (WillKeepPace F.PAGES F.SLOTS F.SECTORS F.sector_start (F.state flash.old).words
-        place.old → KeepsPace F.PAGES F.SLOTS F.SECTORS place.new) }
-    ensures stands { WillKeepPace F.PAGES F.SLOTS F.SECTORS F.sector_start (F.state flash.old).words place.old
-        → WillKeepPace F.PAGES F.SLOTS F.SECTORS F.sector_start (F.state flash.new).words place.new }
+    ensures paced { (extra : ℕ) → place.old.ready ≡ false → lead_of F.PAGES F.SECTORS < free_slots F.SLOTS place.new
+        → KeepsPace F.PAGES F.SLOTS F.SECTORS extra place.new }
+    ensures in_pace { OnOk result ((extra : ℕ) → extra ≤ extra_of F.PAGES F.SLOTS F.SECTORS
+        → WillKeepPace F.PAGES F.SLOTS F.SECTORS F.sector_start (F.state flash.old).words extra place.old
+        → KeepsPace F.PAGES F.SLOTS F.SECTORS extra place.new) }
+    ensures stands { (extra : ℕ) → extra ≤ extra_of F.PAGES F.SLOTS F.SECTORS
+        → WillKeepPace F.PAGES F.SLOTS F.SECTORS F.sector_start (F.state flash.old).words extra place.old
+        → WillKeepPace F.PAGES F.SLOTS F.SECTORS F.sector_start (F.state flash.new).words extra place.new }
     ensures light { Lights (F.state flash.old) (F.state flash.new) result }
 {
     find_pages(flash, place)?;
@@ -250,27 +318,40 @@ fn write_once<F: Flash>(
     ensures log { IsLog F.Table.entries F.PAGES F.SLOTS F.SECTORS F.sector_start (F.state flash.new).words place.new }
     ensures light { Tries 1 (F.state flash.old) (F.state flash.new) result }
     ensures work { Costs (2 * F.PAGES + 40 + F.SECTORS) 2 (F.state flash.old) (F.state flash.new) }
-    ensures pause { IsRoomy F.PAGES F.SLOTS F.SECTORS → Pauses 37 (F.state flash.old) (F.state flash.new)
-        (WillKeepPace F.PAGES F.SLOTS F.SECTORS F.sector_start (F.state flash.old).words place.old)
-        (KeepsPace F.PAGES F.SLOTS F.SECTORS place.new) result }
+    ensures pause { (extra : ℕ)
+        → IsRoomy F.PAGES F.SLOTS F.SECTORS (extra + failed_since (F.state flash.old) (F.state flash.new))
+        → Pauses 37 2 0 (F.state flash.old) (F.state flash.new)
+        (WillKeepPace F.PAGES F.SLOTS F.SECTORS F.sector_start (F.state flash.old).words extra place.old)
+        (KeepsPace F.PAGES F.SLOTS F.SECTORS (extra + failed_since (F.state flash.old) (F.state flash.new)) place.new)
+        result }
     ensures calm { lead_of F.PAGES F.SECTORS < free_slots F.SLOTS place.old
         → (F.state flash.new).faults ≡ (F.state flash.old).faults
         → TakesSlot (F.state flash.old) (F.state flash.new) (place.old.copied ≡ 0) (free_slots F.SLOTS place.old)
         (free_slots F.SLOTS place.new) result }
-    ensures regains { OnOk result (IsRoomy F.PAGES F.SLOTS F.SECTORS
+    ensures regains { OnOk result ((extra : ℕ) → IsRoomy F.PAGES F.SLOTS F.SECTORS extra
         → (F.state flash.new).faults ≡ (F.state flash.old).faults
-        → KeepsPace F.PAGES F.SLOTS F.SECTORS place.old
-        → RegainsSlots F.PAGES F.SLOTS (free_slots F.SLOTS place.old) (free_slots F.SLOTS place.new)) }
-    ensures regains_found { OnOk result (IsRoomy F.PAGES F.SLOTS F.SECTORS
+        → KeepsPace F.PAGES F.SLOTS F.SECTORS extra place.old
+        → RegainsSlots F.PAGES F.SLOTS extra (free_slots F.SLOTS place.old) (free_slots F.SLOTS place.new)
+        (extra_slots place.new)) }
+    ensures regains_found { OnOk result ((extra : ℕ) → IsRoomy F.PAGES F.SLOTS F.SECTORS extra
         → (F.state flash.new).faults ≡ (F.state flash.old).faults
-        → WillKeepPace F.PAGES F.SLOTS F.SECTORS F.sector_start (F.state flash.old).words place.old
+        → WillKeepPace F.PAGES F.SLOTS F.SECTORS F.sector_start (F.state flash.old).words extra place.old
         → (n : ℕ) → FindsFree F.SLOTS (F.state flash.old).words n
-        → RegainsSlots F.PAGES F.SLOTS n (free_slots F.SLOTS place.new)) }
+        → RegainsSlots F.PAGES F.SLOTS extra n (free_slots F.SLOTS place.new) (extra_slots place.new)) }
+    ensures lost { (extra : ℕ) → IsRoomy F.PAGES F.SLOTS F.SECTORS extra
+        → (F.state flash.new).faults ≡ (F.state flash.old).faults
+        → WillKeepPace F.PAGES F.SLOTS F.SECTORS F.sector_start (F.state flash.old).words extra place.old
+        → CopiesNoPageAt F.PAGES F.SLOTS F.SECTORS (F.state flash.old) place.old (F.state flash.new)
+        → IsInPace F.PAGES F.SLOTS F.SECTORS F.sector_start (F.state flash.new).words extra }
+    ensures stands { (extra : ℕ)
+        → IsRoomy F.PAGES F.SLOTS F.SECTORS (extra + failed_since (F.state flash.old) (F.state flash.new))
+        → WillKeepPace F.PAGES F.SLOTS F.SECTORS F.sector_start (F.state flash.old).words extra place.old
+        → WillKeepPace F.PAGES F.SLOTS F.SECTORS F.sector_start (F.state flash.new).words
+        (extra + lost_since (F.state flash.old) (F.state flash.new)) place.new }
 {
     prepare(flash, place)?;
     place.ready = false;
     place.tried = place.next + 1;
-    let behind = write_ahead(flash, place, page, first, words)?;
     write_run(
         flash,
         home(place.turn),
@@ -281,7 +362,7 @@ fn write_once<F: Flash>(
         words,
     )?;
     place.next += 1;
-    place.behind = behind;
+    place.older = older_page(page, place.copied);
     place.ready = true;
     Ok(())
 }
@@ -309,22 +390,36 @@ pub fn write_at<F: Flash>(
     ensures light { Tries TRIES (F.state flash.old) (F.state flash.new) result }
     ensures work { Costs (2 * F.PAGES + 40 + F.SECTORS) (2 * F.PAGES + 42 + F.SECTORS) (F.state flash.old)
         (F.state flash.new) }
-    ensures pause { IsRoomy F.PAGES F.SLOTS F.SECTORS → Pauses 37 (F.state flash.old) (F.state flash.new)
-        (WillKeepPace F.PAGES F.SLOTS F.SECTORS F.sector_start (F.state flash.old).words place.old)
-        (KeepsPace F.PAGES F.SLOTS F.SECTORS place.new) result }
+    ensures pause { (extra : ℕ)
+        → IsRoomy F.PAGES F.SLOTS F.SECTORS (extra + failed_since (F.state flash.old) (F.state flash.new))
+        → Pauses 37 39 1 (F.state flash.old) (F.state flash.new)
+        (WillKeepPace F.PAGES F.SLOTS F.SECTORS F.sector_start (F.state flash.old).words extra place.old)
+        (KeepsPace F.PAGES F.SLOTS F.SECTORS (extra + failed_since (F.state flash.old) (F.state flash.new)) place.new)
+        result }
     ensures calm { lead_of F.PAGES F.SECTORS < free_slots F.SLOTS place.old
         → (F.state flash.new).faults ≡ (F.state flash.old).faults
         → TakesSlot (F.state flash.old) (F.state flash.new) (place.old.copied ≡ 0) (free_slots F.SLOTS place.old)
         (free_slots F.SLOTS place.new) result }
-    ensures regains { OnOk result (IsRoomy F.PAGES F.SLOTS F.SECTORS
+    ensures regains { OnOk result ((extra : ℕ) → IsRoomy F.PAGES F.SLOTS F.SECTORS extra
         → (F.state flash.new).faults ≡ (F.state flash.old).faults
-        → KeepsPace F.PAGES F.SLOTS F.SECTORS place.old
-        → RegainsSlots F.PAGES F.SLOTS (free_slots F.SLOTS place.old) (free_slots F.SLOTS place.new)) }
-    ensures regains_found { OnOk result (IsRoomy F.PAGES F.SLOTS F.SECTORS
+        → KeepsPace F.PAGES F.SLOTS F.SECTORS extra place.old
+        → RegainsSlots F.PAGES F.SLOTS extra (free_slots F.SLOTS place.old) (free_slots F.SLOTS place.new)
+        (extra_slots place.new)) }
+    ensures regains_found { OnOk result ((extra : ℕ) → IsRoomy F.PAGES F.SLOTS F.SECTORS extra
         → (F.state flash.new).faults ≡ (F.state flash.old).faults
-        → WillKeepPace F.PAGES F.SLOTS F.SECTORS F.sector_start (F.state flash.old).words place.old
+        → WillKeepPace F.PAGES F.SLOTS F.SECTORS F.sector_start (F.state flash.old).words extra place.old
         → (n : ℕ) → FindsFree F.SLOTS (F.state flash.old).words n
-        → RegainsSlots F.PAGES F.SLOTS n (free_slots F.SLOTS place.new)) }
+        → RegainsSlots F.PAGES F.SLOTS extra n (free_slots F.SLOTS place.new) (extra_slots place.new)) }
+    ensures lost { (extra : ℕ) → IsRoomy F.PAGES F.SLOTS F.SECTORS extra
+        → (F.state flash.new).faults ≡ (F.state flash.old).faults
+        → WillKeepPace F.PAGES F.SLOTS F.SECTORS F.sector_start (F.state flash.old).words extra place.old
+        → CopiesNoPageAt F.PAGES F.SLOTS F.SECTORS (F.state flash.old) place.old (F.state flash.new)
+        → IsInPace F.PAGES F.SLOTS F.SECTORS F.sector_start (F.state flash.new).words extra }
+    ensures stands { (extra : ℕ)
+        → IsRoomy F.PAGES F.SLOTS F.SECTORS (extra + failed_since (F.state flash.old) (F.state flash.new))
+        → WillKeepPace F.PAGES F.SLOTS F.SECTORS F.sector_start (F.state flash.old).words extra place.old
+        → WillKeepPace F.PAGES F.SLOTS F.SECTORS F.sector_start (F.state flash.new).words
+        (extra + lost_since (F.state flash.old) (F.state flash.new)) place.new }
 {
     for _ in 1..TRIES {
         match write_once(flash, place, page, first, words) {

@@ -1,13 +1,13 @@
 //! Whose turn it is: the three blocks stand in a ring, and the turn is that of the open block behind a closed one.
 //! In turn 0 the pages are in area A, in turns 1 and 2 in area B. The block behind that of the turn holds anything.
-ghost use Rattle.std.specs.Prelude.{◌≡◌, ◌<◌, ◌≤◌, ◌+◌, ◌*◌, ℕ, true, false, IfOk, OnOk, slice_index};
+ghost use Rattle.std.specs.Prelude.{◌≡◌, ◌⊎◌, ◌<◌, ◌≤◌, ◌+◌, ◌*◌, ℕ, true, false, IfOk, OnOk, slice_index};
 ghost use Rattle.flash_device.specs.FlashCalls.{Costs, Lights, SameElsewhere, Tries};
 ghost use Rattle.flash_device.specs.PageTables.{IsPageTable, AreFree};
 ghost use Rattle.flash_device.specs.FlashBlocks.{area_size, witness_start};
 ghost use Rattle.flash_device.specs.FlashLogs.{base_in, close_b, close_of, page_word, turn_by, turn_of, words_of};
 ghost use Rattle.flash_device.specs.FlashLogs.{is_closed as has_closed, is_marked as has_mark};
 ghost use Rattle.flash_area.specs.HeldPages.{HavePages};
-ghost use Rattle.flash_log.specs.Paces.{IsInPace, IsRoomy};
+ghost use Rattle.flash_log.specs.Paces.{IsInPace, IsRoomy, KeepsFree};
 ghost use Rattle.flash_log.specs.Rings.{IsRing};
 ghost use Rattle.flash_device.specs.declared.layout.TheConstants.{SPARES};
 
@@ -56,6 +56,8 @@ pub fn pass_witness<F: Flash>(flash: &mut F) -> Result<(), DeviceErr>
         ≡ words_of F.PAGES F.SLOTS (F.state flash.old).words }
     ensures ring { IsRing F.SLOTS (F.state flash.new).words }
     ensures area { SameElsewhere (F.state flash.old).words (close_b F.SLOTS) 4 (F.state flash.new).words }
+    ensures passes { (turn_of F.SLOTS (F.state flash.new).words ≡ 1)
+        ⊎ (turn_of F.SLOTS (F.state flash.new).words ≡ 2) }
     ensures done { OnOk result (turn_of F.SLOTS (F.state flash.new).words ≡ 2) }
     ensures mark { OnOk result (has_mark (F.state flash.new).words (close_b F.SLOTS) ≡ true) }
     ensures work { (F.state flash.new).operations ≤ (F.state flash.old).operations + 2 }
@@ -117,6 +119,7 @@ pub fn move_to_b<F: Flash>(flash: &mut F, table: &mut F::Table) -> Result<u16, D
     ensures passes { IfOk result (λ n. n + (F.state flash.old).faults ≤ F.PAGES + (F.state flash.new).faults) }
     ensures have { IfOk result (λ n. (F.state flash.new).faults ≡ (F.state flash.old).faults
         → HavePages F.PAGES F.SLOTS (F.state flash.new).words (area_size F.SLOTS) n) }
+    ensures keeps_free { KeepsFree F.PAGES F.SLOTS (F.state flash.old) (F.state flash.new) }
     ensures light { Tries 1 (F.state flash.old) (F.state flash.new) result }
     ensures work { Costs (2 * F.PAGES + 1 + F.SECTORS) 2 (F.state flash.old) (F.state flash.new) }
     ensures erases { (F.state flash.new).erases ≤ (F.state flash.old).erases + F.SECTORS }
@@ -142,6 +145,7 @@ pub fn move_to_a<F: Flash>(flash: &mut F, table: &mut F::Table) -> Result<u16, D
     ensures passes { IfOk result (λ n. n + (F.state flash.old).faults ≤ F.PAGES + (F.state flash.new).faults) }
     ensures have { IfOk result (λ n. (F.state flash.new).faults ≡ (F.state flash.old).faults
         → HavePages F.PAGES F.SLOTS (F.state flash.new).words 0 n) }
+    ensures keeps_free { KeepsFree F.PAGES F.SLOTS (F.state flash.old) (F.state flash.new) }
     ensures mark { OnOk result (has_mark (F.state flash.new).words (witness_start F.SLOTS) ≡ true) }
     ensures light { Tries 1 (F.state flash.old) (F.state flash.new) result }
     ensures work { Costs (2 * F.PAGES + 1 + F.SECTORS) 2 (F.state flash.old) (F.state flash.new) }
@@ -172,8 +176,8 @@ pub fn format_flash<F: Flash>(flash: &mut F) -> Result<(), DeviceErr>
     ensures ring { OnOk result (IsRing F.SLOTS (F.state flash.new).words) }
     ensures blank { OnOk result ((i : ℕ) → i < 16 * F.PAGES
         → slice_index (words_of F.PAGES F.SLOTS (F.state flash.new).words) i ≡ 0) }
-    ensures in_pace { OnOk result (IsRoomy F.PAGES F.SLOTS F.SECTORS
-        → IsInPace F.PAGES F.SLOTS F.SECTORS F.sector_start (F.state flash.new).words) }
+    ensures in_pace { OnOk result ((extra : ℕ) → IsRoomy F.PAGES F.SLOTS F.SECTORS extra
+        → IsInPace F.PAGES F.SLOTS F.SECTORS F.sector_start (F.state flash.new).words extra) }
     ensures work { (F.state flash.new).operations ≤ (F.state flash.old).operations + 2 * F.SECTORS + 2 }
     ensures light { Lights (F.state flash.old) (F.state flash.new) result }
 {

@@ -8,7 +8,7 @@ use Rattle.nvm_board.specs.declared.board.TheConstants.{LEAST_PAGES}
 use Rattle.flash_log.specs.declared.place.PageMap.{PageMap}
 use Rattle.flash_device.specs.FlashBlocks.{area_size, steps_of, witness_start}
 use Rattle.flash_device.specs.FlashCalls.{SameElsewhere, AreFilled}
-use Rattle.flash_device.specs.FlashLogs.{base_in, close_b, close_of, find, is_marked, slot_of, turn_of, word_of}
+use Rattle.flash_device.specs.FlashLogs.{base_in, close_b, close_of, is_marked, slot_of, turn_of, word_of}
 use Rattle.flash_device.specs.FlashLogs.{words_of}
 use Rattle.flash_log.specs.Paces.{KeepsPace}
 use Rattle.flash_device.specs.PageTables.{AreFree}
@@ -92,24 +92,26 @@ module _ (pages slots : ℕ) where
   pub spare_erased : (sectors : ℕ) (start : ℕ → ℕ) (m words : List ℕ) (turn erased : ℕ) → LEAST_PAGES ≤ pages
       → turn ≢ 1 → erased ≡ sectors
       → AreFilled m (spare_in slots turn) (area_size slots) BLANK
-      → IsSpare pages slots sectors start m words turn erased 0 0
+      → IsSpare pages slots sectors start m words turn erased 0 0 0
   spare_erased sectors start m words turn erased least other all blank = record {
     within = omega (arith, all);
     most = omega (arith, least);
     idle = λ one. absurd (other one);
     fresh = λ lt. absurd (omega (arith, lt, all));
     blank = λ lt. absurd (omega (arith, lt, all));
-    copies = λ e. copies_none pages slots m words (spare_in slots turn) blank;
+    few = omega arith;
+    copies = λ e. copies_none pages slots m words (base_in slots turn) (spare_in slots turn) blank;
   }
 
   -- the log is in pace behind it, unless too many slots were passed over
   pub pace_renewed : {T : Type 0} (sectors : ℕ) (p : PageMap T) → p.ready ≡ true → p.turn ≢ 1 → p.erased ≡ sectors
-      → p.copied ≡ 0 → p.behind ≡ 0 → p.next + steps_of pages ≤ slots → KeepsPace pages slots sectors p
-  pace_renewed sectors p ready other erased copied behind room = record {
+      → p.copied ≡ 0 → p.behind ≡ 0 → p.tried ≡ 0 → p.next + steps_of pages ≤ slots → KeepsPace pages slots sectors 0 p
+  pace_renewed sectors p ready other erased copied behind tried room = record {
     ready = ready;
     room = by_test (nat_eq p.turn 1) (ne_eqb p.turn 1 other);
     few = omega (arith, behind);
-    goes_on = λ some. absurd (omega (arith, some, copied));
+    goes_on = λ some. absurd (omega (arith, some, copied, behind));
+    passed = omega (arith, tried);
   }
     where
       by_test : (b : Bool) → b ≡ false

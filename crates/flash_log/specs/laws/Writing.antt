@@ -11,7 +11,8 @@ use Rattle.flash_device.specs.PageTables.{IsPageTable, AreFree}
 use Rattle.flash_device.specs.FlashLogs.{find, is_marked, slot_of, page_word, words_of, base_in, turn_of}
 use Rattle.flash_device.specs.PutRecords.{IsPut, PutsInSlot}
 use Rattle.flash_log.specs.Rings.{SameMarks}
-use Rattle.flash_device.specs.laws.Putting.{word_kept, none_kept, find_kept, put_found, put_word, put_other}
+use Rattle.flash_device.specs.laws.Putting.{word_kept, none_kept, find_kept, holds_none, put_found, put_word}
+use Rattle.flash_device.specs.laws.Putting.{put_other}
 use Rattle.flash_device.specs.laws.Marks.{blank_slot, blank_same}
 use Rattle.flash_log.specs.laws.Turns.{slot_marks, turn_same}
 use Rattle.flash_area.specs.laws.Words.{words_same, words_written, overlaid}
@@ -152,6 +153,27 @@ module _ (pages slots : ℕ) where
         (λ (none : is_marked after (slot_of (base_in slots area) s + 18) ≡ false).
         inl (unmarked_same m after area s puts.elsewhere below home are none))
         (λ (put : IsPut after (slot_of (base_in slots area) s) words). inr (run_done puts put))
+        puts.whole
+
+    -- no page is lost
+    pub run_held : PutsInSlot m (slot_of (base_in slots area) s) words after → (p : ℕ)
+        → find after (base_in slots area) slots p ≡ 0 → find m (base_in slots area) slots p ≡ 0
+    run_held puts p none =
+        let base = base_in slots area in
+        let was_free = free m after area s puts.elsewhere below home are in
+        ⊎_elim
+        (λ (unmarked : is_marked after (slot_of base s + 18) ≡ false).
+        sym (find_kept m after base s puts.elsewhere was_free slots p (holds_none after base s p unmarked)) ∙ none)
+        (λ (put : IsPut after (slot_of base s) words).
+        let past = behind m after area s puts.elsewhere below home are words page size within names put in
+        ⊎_elim
+        (λ (e : p ≡ page).
+        let there : suc s ≡ 0 = sym (put_found m after base s puts.elsewhere words slots page size below names past put)
+        ∙ ap (λ (q : ℕ). find after base slots q) (sym e) ∙ none in
+        absurd (omega (arith, there)))
+        (λ (other : p ≢ page). sym (find_kept m after base s puts.elsewhere was_free slots p
+        (put_other m after base s puts.elsewhere words slots page size below names past put p other)) ∙ none)
+        (cases_eq p page))
         puts.whole
 
     pub run_index : (table : List ℕ) → length table ≡ pages → IsPageTable pages m (base_in slots area) slots table

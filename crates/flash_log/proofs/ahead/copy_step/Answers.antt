@@ -1,10 +1,11 @@
-use Rattle.std.proofs.Common.{◌≡◌, ◌<◌, ◌+◌, ◌*◌, ℕ, refl, sym, subst, ◌∙◌, arith}
+use Rattle.std.proofs.Common.{◌≡◌, ◌<◌, ◌≤◌, ◌+◌, ◌-◌, ◌*◌, ℕ, refl, sym, subst, ◌∙◌, arith}
 use Rattle.flash_device.specs.FlashLogs.{base_in, words_of}
 use Rattle.flash_area.specs.Spares.{HasCopies, spare_in}
 use Rattle.flash_area.specs.laws.Copying.{area_found}
 use Rattle.flash_device.specs.laws.Marks.{elsewhere_then, elsewhere_wider}
 use Rattle.flash_log.specs.laws.Moving.{Stays}
-use Rattle.flash_log.specs.laws.Sparing.{spare_leaves, spare_stays}
+use Rattle.flash_log.specs.laws.Lighting.{tries_faults}
+use Rattle.flash_log.specs.laws.Sparing.{copies_free, copies_wider, spare_leaves, spare_stays}
 use Rattle.flash_log.proofs.ahead.copy_step.Goals as goal
 
 pub loop-k-init : goal.loop-k-init
@@ -23,8 +24,9 @@ loop-k-init g c =
       passes = omega arith;
       room = omega (arith, room);
       elsewhere = record { same = λ k out. refl };
-      copies = subst (λ (n : ℕ). HasCopies pages slots m (words_of pages slots m) (spare_in slots c.args.turn) n
-          c.args.next) none c.requires.copies.1;
+      copies = subst (λ (n : ℕ). HasCopies pages slots m (words_of pages slots m) (base_in slots c.args.turn)
+          (spare_in slots c.args.turn) n c.args.next 0) none c.requires.copies.1;
+      torn = λ fits copied less has. has;
     }
 
 pub loop-k-preserved : goal.loop-k-preserved
@@ -34,6 +36,9 @@ loop-k-preserved g c =
     let m = (g.F.Flash.state c.args.flash.now).words in
     let mid = (g.F.Flash.state c.loop-k.flash).words in
     let after = (g.F.Flash.state c.copy_ahead.new.flash).words in
+    let old = g.F.Flash.state c.args.flash.now in
+    let mid_state = g.F.Flash.state c.loop-k.flash in
+    let new = g.F.Flash.state c.copy_ahead.new.flash in
     let base = spare_in slots c.args.turn in
     let was = c.loop-k.invariant in
     let k = c.loop-k.k in
@@ -54,8 +59,17 @@ loop-k-preserved g c =
       passes = omega (arith, was.passes, c.in_ok-free.ensures.passes);
       room = omega (arith, most, fits);
       elsewhere = elsewhere_then m mid after base (20 * slots) was.elsewhere c.copy_ahead.ensures.elsewhere;
-      copies = subst (λ (j : ℕ). HasCopies pages slots after (words_of pages slots after) base j n) there
-          c.in_ok-free.ensures.copies;
+      copies = subst (λ (j : ℕ). HasCopies pages slots after (words_of pages slots after) (base_in slots c.args.turn)
+          base j n 0) there c.in_ok-free.ensures.copies;
+      torn = λ fits copied less has.
+          let k_less = c.loop-k-test.true in
+          let passes = was.passes in
+          let one : c.loop-k.free + 1 + (new.faults - mid_state.faults) ≤ slots =
+          omega (arith, fits, passes, k_less, a, b) in
+          let two : c.args.next + 16 + (mid_state.faults - old.faults) ≤ slots = omega (arith, fits, a, b) in
+          copies_free pages slots after (words_of pages slots after) (base_in slots c.args.turn) base copied
+          (c.loop-k.free + 1 + (new.faults - mid_state.faults)) 0 n c.in_ok-free.ensures.copies.free
+          (c.copy_ahead.ensures.torn one copied (omega (arith, less)) (was.torn two copied less has));
     }
 
 pub copy_ahead-requires-clause-turn : goal.copy_ahead-requires-clause-turn
@@ -102,3 +116,36 @@ copy_ahead-requires-clause-entry g c =
       c.requires.index.1.each page below
           ∙ sym (area_found slots m mid (base_in slots c.args.turn) same page),
     )
+
+pub returns-in_err-free-clause-torn : goal.returns-in_err-free-clause-torn
+returns-in_err-free-clause-torn g c = λ fits copied less has.
+    let slots = g.F.Flash.SLOTS in
+    let pages = g.F.Flash.PAGES in
+    let old = g.F.Flash.state c.args.flash.now in
+    let mid = g.F.Flash.state c.loop-k.flash in
+    let new = g.F.Flash.state c.copy_ahead.new.flash in
+    let after = new.words in
+    let was = c.loop-k.invariant in
+    let k = c.loop-k-test.true in
+    let rise = was.steady.faults in
+    let passes = was.passes in
+    let more = tries_faults 1 mid new c.copy_ahead.result c.copy_ahead.ensures.light in
+    let one : c.loop-k.free + 1 + (new.faults - mid.faults) ≤ slots = omega (arith, fits, passes, k, rise, more) in
+    let two : c.args.next + 16 + (mid.faults - old.faults) ≤ slots = omega (arith, fits, rise, more) in
+    copies_wider pages slots after (words_of pages slots after) (base_in slots c.args.turn) (spare_in slots c.args.turn)
+    copied (c.loop-k.free + 1 + (new.faults - mid.faults)) 0 (c.args.next + 16 + (new.faults - old.faults))
+    (omega (arith, passes, k, rise, more)) fits
+    (c.copy_ahead.ensures.torn one copied (omega (arith, less)) (was.torn two copied less has))
+
+pub returns-clause-torn : goal.returns-clause-torn
+returns-clause-torn g c = λ fits copied less has.
+    let slots = g.F.Flash.SLOTS in
+    let pages = g.F.Flash.PAGES in
+    let old = g.F.Flash.state c.args.flash.now in
+    let new = g.F.Flash.state c.loop-k.flash in
+    let was = c.loop-k.invariant in
+    let passes = was.passes in
+    let rise = was.steady.faults in
+    copies_wider pages slots new.words (words_of pages slots new.words) (base_in slots c.args.turn)
+    (spare_in slots c.args.turn) copied c.loop-k.free 0 (c.args.next + 16 + (new.faults - old.faults))
+    (omega (arith, passes, rise)) fits (was.torn fits copied less has)

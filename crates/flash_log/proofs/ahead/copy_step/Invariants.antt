@@ -1,8 +1,9 @@
-use Rattle.std.proofs.Common.{◌≡◌, ◌≤◌, ◌+◌, ◌*◌, false}
+use Rattle.std.proofs.Common.{◌≡◌, ◌≤◌, ◌+◌, ◌-◌, ◌*◌, false}
 use Rattle.flash_device.specs.declared.layout.TheConstants.{STEP_PAGES}
 use Rattle.flash_device.specs.FlashCalls.{KeepsPower, SameElsewhere}
-use Rattle.flash_device.specs.FlashLogs.{words_of}
+use Rattle.flash_device.specs.FlashLogs.{base_in, words_of}
 use Rattle.flash_area.specs.Spares.{HasCopies, spare_in}
+use Rattle.flash_log.specs.Paces.{StaysCopied}
 use Rattle.flash_log.proofs.ahead.copy_step.Given as goal
 
 abbrev pub invariant-loop-k : goal.invariant-loop-k
@@ -18,6 +19,7 @@ invariant-loop-k g l =
       room : l.free + STEP_PAGES ≤ slots + l.k;
       elsewhere : SameElsewhere old.words (spare_in slots l.turn) (20 * slots) new.words;
       copies : HasCopies g.F.Flash.PAGES slots new.words (words_of g.F.Flash.PAGES slots new.words)
-          (spare_in slots l.turn) (l.first + l.k)
-          l.free;
+          (base_in slots l.turn) (spare_in slots l.turn) (l.first + l.k) l.free 0;
+      torn : l.next + STEP_PAGES + (new.faults - old.faults) ≤ slots
+          → StaysCopied g.F.Flash.PAGES slots old.words new.words l.turn l.first l.next l.free;
     }

@@ -1,4 +1,4 @@
-use Rattle.std.proofs.Common.{◌≡◌, ◌+◌, ◌-◌, ℕ, sym, subst, ◌∙◌, true≢false}
+use Rattle.std.proofs.Common.{◌≡◌, ◌+◌, ◌-◌, ℕ, refl, sym, subst, inl, inr, ◌∙◌, true≢false}
 use Rattle.flash_device.specs.declared.flash.TheConstants.{BLANK}
 use Rattle.flash_device.specs.FlashBlocks.{area_size}
 use Rattle.flash_device.specs.FlashCalls.{AreFilled, SameElsewhere}
@@ -7,6 +7,8 @@ use Rattle.flash_area.specs.Spares.{spare_in, spare_sector}
 use Rattle.flash_area.specs.laws.Copying.{area_free}
 use Rattle.flash_log.specs.laws.Moving.{Stays}
 use Rattle.flash_log.specs.laws.Sparing.{index_same, sector_within, spare_leaves, spare_more, spare_stays}
+use Rattle.flash_log.specs.laws.Losing.{erase_in_pace}
+use Rattle.flash_log.specs.laws.Pacing.{stepped_erased}
 use Rattle.flash_log.proofs.ahead.erase_next.Goals as goal
 
 pub returns-clause-log : goal.returns-clause-log
@@ -48,7 +50,7 @@ returns-clause-log g c =
         index = index_same slots pages m after (entries place.table) base area known.index;
         free = area_free slots m after base area place.next known.free;
         spare = spare_more pages slots sectors start rise fit.0 fit.1 fit.2 fit.4 m after (words_of pages slots m)
-            (words_of pages slots after) turn place.erased place.copied place.behind c.requires.moves.0
+            (words_of pages slots after) turn place.erased place.copied place.behind place.older c.requires.moves.0
             c.requires.moves.1 known.spare run done;
       };
     }
@@ -124,3 +126,38 @@ returns-in_err-erase-clause-log g c =
     (sector_within pages slots sectors start rise fit.0 fit.1 fit.2 fit.4 m after place.turn place.erased
     c.requires.moves.1 run) in
     record { ring = stays.ring; known = λ e. absurd (true≢false (sym e)) }
+
+pub returns-in_err-erase-clause-stands : goal.returns-in_err-erase-clause-stands
+returns-in_err-erase-clause-stands g c = λ extra pace.
+    let slots = g.F.Flash.SLOTS in
+    let pages = g.F.Flash.PAGES in
+    let sectors = g.F.Flash.SECTORS in
+    let start = g.F.Flash.sector_start in
+    let rise = g.met.F.Flash.sectors_rise in
+    let fit = g.met.F.Flash.sectors_fit in
+    let m = (g.F.Flash.state c.args.flash.now).words in
+    let after = (g.F.Flash.state c.erase.new.self).words in
+    let place = c.args.place.now in
+    let known = c.requires.log.known c.requires.ready in
+    let run : SameElsewhere m (start (spare_sector sectors place.turn + place.erased))
+    (start (spare_sector sectors place.turn + place.erased + 1)
+    - start (spare_sector sectors place.turn + place.erased)) after =
+    subst (λ (s : ℕ). SameElsewhere m (start (s + place.erased))
+    (start (s + place.erased + 1) - start (s + place.erased)) after) c.first_sector_of_spare.ensures.is
+    c.erase.ensures.elsewhere in
+    let within = sector_within pages slots sectors start rise fit.0 fit.1 fit.2 fit.4 m after place.turn place.erased
+    c.requires.moves.1 run in
+    inr (
+      refl,
+      erase_in_pace pages slots sectors extra start g.F.Table.PageTable.entries m after place known
+          c.requires.moves.1 run
+          (spare_stays pages slots m after place.turn c.requires.log.ring known.turn known.small c.requires.moves.0
+          within) (spare_leaves slots m after place.turn within) pace,
+    )
+
+pub returns-clause-stands : goal.returns-clause-stands
+returns-clause-stands g c = λ extra pace.
+    let place = c.args.place.now in
+    let spare = (c.requires.log.known c.requires.ready).spare in
+    inl (stepped_erased g.F.Flash.PAGES g.F.Flash.SLOTS g.F.Flash.SECTORS extra place c.requires.moves.1
+    (spare.fresh c.requires.moves.1).0 pace)

@@ -1,5 +1,6 @@
 use Rattle.std.proofs.Common.{◌≡◌, ℕ, List, sym, ap, subst, ◌∙◌, arith, true≢false}
-use Rattle.flash_device.specs.FlashLogs.{base_in, turn_of, words_of}
+use Rattle.flash_device.specs.FlashCalls.{SameElsewhere}
+use Rattle.flash_device.specs.FlashLogs.{base_in, close_of, turn_of, words_of}
 use Rattle.flash_device.specs.PageTables.{AreFree, IsPageTable}
 use Rattle.flash_log.specs.Rings.{IsRing}
 use Rattle.flash_area.specs.Spares.{spare_in}
@@ -149,3 +150,15 @@ returns-clause-log g c =
             fit.2 fit.4 g.met.F.Flash.pages_fit.0 last (words_of pages slots last) next;
       };
     }
+
+pub returns-in_err-scan-clause-elsewhere : goal.returns-in_err-scan-clause-elsewhere
+returns-in_err-scan-clause-elsewhere g c =
+    let m = (g.F.Flash.state c.args.flash.now).words in
+    subst (λ (l : List ℕ). SameElsewhere m (close_of g.F.Flash.SLOTS c.args.place.now.turn) 2 l)
+    (sym c.scan.ensures.words) c.close.ensures.elsewhere
+
+pub returns-clause-elsewhere : goal.returns-clause-elsewhere
+returns-clause-elsewhere g c =
+    let m = (g.F.Flash.state c.args.flash.now).words in
+    subst (λ (l : List ℕ). SameElsewhere m (close_of g.F.Flash.SLOTS c.args.place.now.turn) 2 l)
+    (sym c.scan.ensures.words) c.close.ensures.elsewhere

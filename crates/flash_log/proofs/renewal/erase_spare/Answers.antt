@@ -1,4 +1,4 @@
-use Rattle.std.proofs.Common.{ℕ, sym, subst, ◌∙◌, true≢false}
+use Rattle.std.proofs.Common.{ℕ, ap, sym, subst, ◌∙◌, true≢false}
 use Rattle.flash_device.specs.declared.flash.TheConstants.{BLANK}
 use Rattle.flash_device.specs.FlashBlocks.{area_size}
 use Rattle.flash_device.specs.FlashCalls.{AreFilled, SameElsewhere}
@@ -7,6 +7,7 @@ use Rattle.flash_area.specs.Spares.{spare_in}
 use Rattle.flash_area.specs.laws.Copying.{area_free}
 use Rattle.flash_log.specs.laws.Renewing.{spare_erased}
 use Rattle.flash_log.specs.laws.Sparing.{index_same, spare_leaves, spare_stays}
+use Rattle.flash_log.specs.laws.Losing.{free_by_area}
 use Rattle.flash_log.proofs.renewal.erase_spare.Goals as goal
 
 pub returns-in_err-erase_area-clause-words : goal.returns-in_err-erase_area-clause-words
@@ -84,3 +85,35 @@ returns-clause-log g c =
             c.SECTORS-place.ensures blank;
       };
     }
+
+pub returns-in_err-erase_area-clause-keeps_free : goal.returns-in_err-erase_area-clause-keeps_free
+returns-in_err-erase_area-clause-keeps_free g c = λ n far.
+    let slots = g.F.Flash.SLOTS in
+    let pages = g.F.Flash.PAGES in
+    let m = (g.F.Flash.state c.args.flash.now).words in
+    let after = (g.F.Flash.state c.erase_area.new.flash).words in
+    let place = c.args.place.now in
+    let known = c.requires.log.known c.requires.ready.0 in
+    let within : SameElsewhere m (spare_in slots place.turn) (area_size slots) after =
+    subst (λ (b : ℕ). SameElsewhere m b (area_size slots) after) (c.spare.ensures.is slots)
+    c.erase_area.ensures.elsewhere in
+    let stays = spare_stays pages slots m after place.turn c.requires.log.ring known.turn known.small c.requires.ready.1
+    within in
+    free_by_area pages slots m after (base_in slots place.turn) n (ap (base_in slots) (sym known.turn))
+    (ap (base_in slots) (stays.turn ∙ sym known.turn)) (spare_leaves slots m after place.turn within)
+
+pub returns-clause-keeps_free : goal.returns-clause-keeps_free
+returns-clause-keeps_free g c = λ n far.
+    let slots = g.F.Flash.SLOTS in
+    let pages = g.F.Flash.PAGES in
+    let m = (g.F.Flash.state c.args.flash.now).words in
+    let after = (g.F.Flash.state c.erase_area.new.flash).words in
+    let place = c.args.place.now in
+    let known = c.requires.log.known c.requires.ready.0 in
+    let within : SameElsewhere m (spare_in slots place.turn) (area_size slots) after =
+    subst (λ (b : ℕ). SameElsewhere m b (area_size slots) after) (c.spare.ensures.is slots)
+    c.erase_area.ensures.elsewhere in
+    let stays = spare_stays pages slots m after place.turn c.requires.log.ring known.turn known.small c.requires.ready.1
+    within in
+    free_by_area pages slots m after (base_in slots place.turn) n (ap (base_in slots) (sym known.turn))
+    (ap (base_in slots) (stays.turn ∙ sym known.turn)) (spare_leaves slots m after place.turn within)

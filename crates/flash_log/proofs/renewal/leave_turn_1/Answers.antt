@@ -24,3 +24,12 @@ returns-clause-last g c = λ last.
     let after = (g.F.Flash.state c.pass_on.new.flash).words in
     subst (λ (p : PageMap _). HasLastMark slots after p.turn) (sym c.in_ok-pass_on.ensures.step)
     (last_on pages slots after c.in_ok-pass_on.ensures.mark)
+
+pub returns-then-place-ne1-clause-keeps_free : goal.returns-then-place-ne1-clause-keeps_free
+returns-then-place-ne1-clause-keeps_free g c = λ n far free. free
+
+pub returns-in_err-pass_on-clause-keeps_free : goal.returns-in_err-pass_on-clause-keeps_free
+returns-in_err-pass_on-clause-keeps_free g c = c.pass_on.ensures.keeps_free
+
+pub returns-clause-keeps_free : goal.returns-clause-keeps_free
+returns-clause-keeps_free g c = c.pass_on.ensures.keeps_free

@@ -1,100 +1,129 @@
-use Rattle.std.proofs.Common.{◌≡◌, ◌≢◌, ◌≤◌, ◌+◌, ◌-◌, ◌∙◌, ℕ, true, refl, sym, ap, subst, ⊎_elim, arith}
-use Rattle.std.proofs.lemmas.Bool.{cases_eq}
-use Rattle.flash_device.specs.declared.flash.TheConstants.{BLANK}
-use Rattle.flash_log.specs.declared.place.PageMap.{PageMap}
-use Rattle.flash_device.specs.FlashBlocks.{area_size, steps_of}
-use Rattle.flash_device.specs.FlashCalls.{AreFilled}
-use Rattle.flash_device.specs.FlashLogs.{base_in}
-use Rattle.flash_log.specs.Paces.{KeepsPace, free_slots}
-use Rattle.flash_area.specs.HeldPages.{HavePages}
-use Rattle.flash_log.specs.Renewals.{AreClean, HasLastMark, HoldsOnlyPages}
-use Rattle.flash_area.specs.Spares.{spare_in}
-use Rattle.flash_log.specs.laws.Renewing.{home_held, last_same, only_pages, pace_renewed}
+use Rattle.std.proofs.Common.{◌+◌, refl, arith}
+use Rattle.flash_log.specs.Paces.{HasFreeSlots, lead_of, lost_since}
+use Rattle.flash_log.specs.laws.Ending.{stands_more}
+use Rattle.flash_log.specs.laws.Lighting.{tries_faults}
+use Rattle.flash_log.specs.laws.Losing.{free_read, free_then}
 use Rattle.flash_log.proofs.renewal.renew_pages.Goals as goal
 
-pub returns-then-branch-clause-only : goal.returns-then-branch-clause-only
-returns-then-branch-clause-only g c =
-    let slots = g.F.Flash.SLOTS in
-    let pages = g.F.Flash.PAGES in
-    let mid = (g.F.Flash.state c.move_pages.new.flash).words in
-    let after = (g.F.Flash.state c.erase_spare.new.flash).words in
-    let p = c.move_pages.new.place in
-    let q = c.erase_spare.new.place in
-    let step = c.in_ok-erase_spare.ensures.step in
-    let turn : q.turn ≡ p.turn = ap (λ (r : PageMap _). r.turn) step in
-    let known = c.erase_spare.ensures.log.known (ap (λ (r : PageMap _). r.ready) step) in
-    let last : HasLastMark slots after q.turn = subst (HasLastMark slots after) (sym turn)
-    (last_same pages slots mid after p.turn c.erase_spare.ensures.elsewhere c.in_ok-move_pages.ensures.last) in
-    let blank : AreFilled after (spare_in slots q.turn) (area_size slots) BLANK =
-    subst (λ (t : ℕ). AreFilled after (spare_in slots t) (area_size slots) BLANK) (sym turn)
-    c.in_ok-erase_spare.ensures.blank in
-    let clean : AreClean pages slots after (base_in slots q.turn) q.next =
-    subst (λ (b : ℕ). AreClean pages slots after b q.next) (c.home.ensures.is slots)
-    (c.in_ok-are_clean.ensures.clean c.if-branch.true) in
-    subst (HoldsOnlyPages pages slots) (sym c.are_clean.ensures.words)
-    (only_pages pages slots after q.turn q.next c.erase_spare.ensures.log.ring known.turn known.small
-    (λ one. c.in_ok-move_pages.ensures.ready.1 (sym turn ∙ one)) last clean known.free blank)
+pub returns-clause-pace : goal.returns-clause-pace
+returns-clause-pace g c = λ roomy few.
+    let less = (c.in_ok-end_move.ensures.light.ok refl).faults in
+    c.in_ok-leave_area.ensures.pace roomy (omega (arith, few, less))
 
-pub returns-clause-light : goal.returns-clause-light
-returns-clause-light g c =
+pub returns-clause-free : goal.returns-clause-free
+returns-clause-free g c =
+    let less = (c.in_ok-end_move.ensures.light.ok refl).faults in
+    let free = c.in_ok-leave_area.ensures.free in
+    omega (arith, free, less)
+
+pub returns-in_err-end_move-clause-keeps_free : goal.returns-in_err-end_move-clause-keeps_free
+returns-in_err-end_move-clause-keeps_free g c = λ has.
     let slots = g.F.Flash.SLOTS in
     let pages = g.F.Flash.PAGES in
     let old = g.F.Flash.state c.args.flash.now in
-    let new = g.F.Flash.state c.are_clean.new.flash in
-    let mid = (g.F.Flash.state c.move_pages.new.flash).words in
-    let after = (g.F.Flash.state c.erase_spare.new.flash).words in
-    let p = c.move_pages.new.place in
-    let q = c.erase_spare.new.place in
-    let step = c.in_ok-erase_spare.ensures.step in
-    let moved = c.in_ok-move_pages.ensures.light.ok refl in
-    let erased = c.in_ok-erase_spare.ensures.light.ok refl in
-    let looked = c.in_ok-are_clean.ensures.light.ok refl in
-    let less = moved.faults in
-    let more = erased.faults in
-    let still = looked.faults in
-    let rises : old.faults + 1 ≤ new.faults = ⊎_elim
-    (λ (same : new.faults ≡ old.faults).
-    let have = home_held pages slots mid after p.turn p.next c.erase_spare.ensures.elsewhere
-    (c.in_ok-move_pages.ensures.have (omega (arith, same, less, more, still))) in
-    let here : HavePages pages slots after (base_in slots q.turn) q.next =
-    subst (λ (r : PageMap _). HavePages pages slots after (base_in slots r.turn) r.next) (sym step) have in
-    absurd (c.in_ok-are_clean.ensures.unclean c.if-branch.false
-    (subst (λ (b : ℕ). HavePages pages slots after b q.next) (sym (c.home.ensures.is slots)) here)))
-    (λ (other : new.faults ≢ old.faults). omega (arith, other, less, more, still))
-    (cases_eq new.faults old.faults) in
-    record {
-      ok = λ h. absurd cc;
-      lost = λ h. absurd cc;
-      fault = λ h. (
-        record {
-          lit = looked.lit;
-          due = looked.due ∙ erased.due ∙ moved.due;
-          faults = omega (arith, less, more, still);
-        },
-        rises,
-      );
-    }
+    let mid = g.F.Flash.state c.end_move.new.flash in
+    free_read pages slots old mid (c.end_move.ensures.calm has).0
 
-pub returns-then-branch-clause-pace : goal.returns-then-branch-clause-pace
-returns-then-branch-clause-pace g c = λ roomy few.
+pub returns-in_err-end_move-clause-calm : goal.returns-in_err-end_move-clause-calm
+returns-in_err-end_move-clause-calm g c = λ has.
     let slots = g.F.Flash.SLOTS in
     let pages = g.F.Flash.PAGES in
-    let sectors = g.F.Flash.SECTORS in
-    let erased = (c.in_ok-erase_spare.ensures.light.ok refl).faults in
-    let looked = (c.in_ok-are_clean.ensures.light.ok refl).faults in
-    let passes = c.in_ok-move_pages.ensures.passes in
-    let p = c.move_pages.new.place in
-    let room : p.next + steps_of pages ≤ slots = omega (arith, roomy, few, erased, looked, passes) in
-    subst (KeepsPace pages slots sectors) (sym c.in_ok-erase_spare.ensures.step)
-    (pace_renewed pages slots sectors (record p { ready = true; erased = sectors; copied = 0; behind = 0 }) refl
-    c.in_ok-move_pages.ensures.ready.1 refl refl refl room)
+    let old = g.F.Flash.state c.args.flash.now in
+    let mid = g.F.Flash.state c.end_move.new.flash in
+    let still = c.end_move.ensures.calm has in
+    let same = still.1 in
+    let erases = still.2 in
+    let more = tries_faults 1 old mid c.end_move.result c.end_move.ensures.light in record {
+      work = record { operations = omega (arith, same, more) };
+      erases = omega (arith, erases);
+    }
 
-pub returns-then-branch-clause-free : goal.returns-then-branch-clause-free
-returns-then-branch-clause-free g c =
+pub returns-in_err-leave_area-clause-keeps_free : goal.returns-in_err-leave_area-clause-keeps_free
+returns-in_err-leave_area-clause-keeps_free g c = λ has.
     let slots = g.F.Flash.SLOTS in
-    let erased = (c.in_ok-erase_spare.ensures.light.ok refl).faults in
-    let looked = (c.in_ok-are_clean.ensures.light.ok refl).faults in
-    let passes = c.in_ok-move_pages.ensures.passes in
-    let free : free_slots slots c.erase_spare.new.place ≡ slots - c.move_pages.new.place.next =
-    ap (λ (r : PageMap _). free_slots slots r) c.in_ok-erase_spare.ensures.step in
-    omega (arith, free, erased, looked, passes)
+    let pages = g.F.Flash.PAGES in
+    let old = g.F.Flash.state c.args.flash.now in
+    let mid = g.F.Flash.state c.end_move.new.flash in
+    let new = g.F.Flash.state c.leave_area.new.flash in
+    let less = (c.in_ok-end_move.ensures.light.ok refl).faults in
+    let more = tries_faults 1 mid new c.leave_area.result c.leave_area.ensures.light in
+    free_then pages slots old mid new less more (free_read pages slots old mid (c.end_move.ensures.calm has).0)
+    c.leave_area.ensures.keeps_free
+
+pub returns-in_err-leave_area-clause-stands : goal.returns-in_err-leave_area-clause-stands
+returns-in_err-leave_area-clause-stands g c = λ extra roomy pace.
+    let slots = g.F.Flash.SLOTS in
+    let pages = g.F.Flash.PAGES in
+    let old = g.F.Flash.state c.args.flash.now in
+    let mid = g.F.Flash.state c.end_move.new.flash in
+    let new = g.F.Flash.state c.leave_area.new.flash in
+    let less = (c.in_ok-end_move.ensures.light.ok refl).faults in
+    let more = tries_faults 1 mid new c.leave_area.result c.leave_area.ensures.light in
+    let sectors = g.F.Flash.SECTORS in
+    let has : HasFreeSlots slots (lead_of pages sectors) mid.words =
+    c.in_ok-end_move.ensures.room extra (omega (arith, roomy, less, more)) pace in
+    stands_more pages slots sectors g.F.Flash.sector_start new.words 0 (extra + lost_since old new)
+    c.leave_area.new.place (omega arith) (c.leave_area.ensures.stands (omega (arith, roomy, less, more)) has)
+
+pub returns-in_err-leave_area-clause-calm : goal.returns-in_err-leave_area-clause-calm
+returns-in_err-leave_area-clause-calm g c = λ has.
+    let slots = g.F.Flash.SLOTS in
+    let pages = g.F.Flash.PAGES in
+    let old = g.F.Flash.state c.args.flash.now in
+    let mid = g.F.Flash.state c.end_move.new.flash in
+    let new = g.F.Flash.state c.leave_area.new.flash in
+    let less = (c.in_ok-end_move.ensures.light.ok refl).faults in
+    let more = tries_faults 1 mid new c.leave_area.result c.leave_area.ensures.light in
+    let still = c.end_move.ensures.calm has in
+    let same = still.1 in
+    let erases = still.2 in
+    let work = c.leave_area.ensures.work.operations in
+    let erased = c.leave_area.ensures.erases in record {
+      work = record { operations = omega (arith, same, work, less) };
+      erases = omega (arith, erases, erased);
+    }
+
+pub returns-clause-keeps_free : goal.returns-clause-keeps_free
+returns-clause-keeps_free g c = λ has.
+    let slots = g.F.Flash.SLOTS in
+    let pages = g.F.Flash.PAGES in
+    let old = g.F.Flash.state c.args.flash.now in
+    let mid = g.F.Flash.state c.end_move.new.flash in
+    let new = g.F.Flash.state c.leave_area.new.flash in
+    let less = (c.in_ok-end_move.ensures.light.ok refl).faults in
+    let more = tries_faults 1 mid new c.leave_area.result c.leave_area.ensures.light in
+    free_then pages slots old mid new less more (free_read pages slots old mid (c.end_move.ensures.calm has).0)
+    c.leave_area.ensures.keeps_free
+
+pub returns-clause-stands : goal.returns-clause-stands
+returns-clause-stands g c = λ extra roomy pace.
+    let slots = g.F.Flash.SLOTS in
+    let pages = g.F.Flash.PAGES in
+    let old = g.F.Flash.state c.args.flash.now in
+    let mid = g.F.Flash.state c.end_move.new.flash in
+    let new = g.F.Flash.state c.leave_area.new.flash in
+    let less = (c.in_ok-end_move.ensures.light.ok refl).faults in
+    let more = tries_faults 1 mid new c.leave_area.result c.leave_area.ensures.light in
+    let sectors = g.F.Flash.SECTORS in
+    let has : HasFreeSlots slots (lead_of pages sectors) mid.words =
+    c.in_ok-end_move.ensures.room extra (omega (arith, roomy, less, more)) pace in
+    stands_more pages slots sectors g.F.Flash.sector_start new.words 0 (extra + lost_since old new)
+    c.leave_area.new.place (omega arith) (c.leave_area.ensures.stands (omega (arith, roomy, less, more)) has)
+
+pub returns-clause-calm : goal.returns-clause-calm
+returns-clause-calm g c = λ has.
+    let slots = g.F.Flash.SLOTS in
+    let pages = g.F.Flash.PAGES in
+    let old = g.F.Flash.state c.args.flash.now in
+    let mid = g.F.Flash.state c.end_move.new.flash in
+    let new = g.F.Flash.state c.leave_area.new.flash in
+    let less = (c.in_ok-end_move.ensures.light.ok refl).faults in
+    let more = tries_faults 1 mid new c.leave_area.result c.leave_area.ensures.light in
+    let still = c.end_move.ensures.calm has in
+    let same = still.1 in
+    let erases = still.2 in
+    let work = c.leave_area.ensures.work.operations in
+    let erased = c.leave_area.ensures.erases in record {
+      work = record { operations = omega (arith, same, work, less) };
+      erases = omega (arith, erases, erased);
+    }

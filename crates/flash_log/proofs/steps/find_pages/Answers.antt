@@ -1,11 +1,11 @@
-use Rattle.std.proofs.Common.{◌≡◌, ◌≤◌, ◌+◌, ◌*◌, ℕ, List, true, refl, sym, ap, subst, inl, inr, ⊎_elim, ◌∙◌, arith}
-use Rattle.std.proofs.Common.{true≢false}
-use Rattle.flash_device.specs.declared.layout.TheConstants.{STEP_PAGES}
+use Rattle.std.proofs.Common.{◌≡◌, ◌<◌, ◌≤◌, ◌+◌, ℕ, List, refl, sym, ap, subst, inl, inr, ⊎_elim, ◌∙◌, arith}
+use Rattle.std.proofs.Common.{false, true≢false}
+use Rattle.std.proofs.lemmas.Bool.{cases_lt}
 use Rattle.flash_device.specs.FlashLogs.{base_in, turn_of, words_of}
 use Rattle.flash_device.specs.PageTables.{IsPageTable, AreFree, IsFirstFreeSlot}
-use Rattle.flash_log.specs.Paces.{IsInPace, KeepsPace, is_fresh, lead_of}
+use Rattle.flash_log.specs.Paces.{IsInPaceFrom, KeepsPace, extra_of, lead_of}
 use Rattle.flash_log.specs.Rings.{IsRing}
-use Rattle.flash_area.specs.Spares.{IsFurthest, IsSpare}
+use Rattle.flash_area.specs.Spares.{IsSpare, KeepsSteps}
 use Rattle.flash_device.specs.laws.Indexing.{free_later}
 use Rattle.flash_log.specs.laws.Pacing.{free_known, fresh_is, fresh_stands, paced_found, steps_most}
 use Rattle.flash_log.proofs.steps.find_pages.Goals as goal
@@ -24,22 +24,22 @@ returns-clause-log g c =
     let index : IsPageTable pages after (base_in slots turn) slots (entries c.scan.new.table) =
     subst (λ (b : ℕ). IsPageTable pages after b slots (entries c.scan.new.table)) (c.home.ensures.is slots)
     (subst (λ (l : List ℕ). IsPageTable pages l (base_in slots c.home.result) slots (entries c.scan.new.table))
-    (sym same) c.in_ok-next.ensures.index) in
-    let free : AreFree after (base_in slots turn) c.in_ok-next.next slots =
-    subst (λ (b : ℕ). AreFree after b c.in_ok-next.next slots) (c.home.ensures.is slots)
-    (subst (λ (l : List ℕ). AreFree l (base_in slots c.home.result) c.in_ok-next.next slots) (sym same)
-    c.in_ok-next.ensures.free) in
+    (sym same) c.in_ok-first.ensures.index) in
+    let free : AreFree after (base_in slots turn) c.in_ok-first.first slots =
+    subst (λ (b : ℕ). AreFree after b c.in_ok-first.first slots) (c.home.ensures.is slots)
+    (subst (λ (l : List ℕ). AreFree l (base_in slots c.home.result) c.in_ok-first.first slots) (sym same)
+    c.in_ok-first.ensures.free) in
     record {
       ring = subst (IsRing slots) (sym old) c.requires.log.ring;
       known = λ _. record {
         turn = c.in_ok-turn.ensures.turn ∙ sym (ap (turn_of slots) old);
         small = c.in_ok-turn.ensures.small;
         index = index;
-        free = free_later after (base_in slots turn) c.in_ok-next.next c.later-place.result slots free
-            c.later-place.ensures.least c.later-place.ensures.most;
+        free = free_later after (base_in slots turn) c.in_ok-first.first c.later-next.result slots free
+            c.later-next.ensures.least c.later-next.ensures.most;
         spare = let progress = c.in_ok-progress.progress in
             subst (λ (l : List ℕ). IsSpare pages slots g.F.Flash.SECTORS g.F.Flash.sector_start l
-            (words_of pages slots l) turn progress.erased progress.copied progress.behind)
+            (words_of pages slots l) turn progress.erased progress.copied progress.behind progress.older)
             (sym c.progress_at.ensures.words)
             c.in_ok-progress.ensures.spare;
       };
@@ -56,11 +56,11 @@ returns-clause-found g c = λ unready none.
     let old : mid ≡ m = c.find_turn.ensures.words in
     let base : base_in slots c.home.result ≡ base_in slots (turn_of slots m) =
     c.home.ensures.is slots ∙ ap (λ (t : ℕ). base_in slots t) c.in_ok-turn.ensures.turn in
-    let first : IsFirstFreeSlot m (base_in slots (turn_of slots m)) c.in_ok-next.next slots =
-    subst (λ (b : ℕ). IsFirstFreeSlot m b c.in_ok-next.next slots) base
-    (subst (λ (l : List ℕ). IsFirstFreeSlot l (base_in slots c.home.result) c.in_ok-next.next slots) old
-    c.in_ok-next.ensures.first) in
-    let next = c.later-place.ensures.none none in
+    let first : IsFirstFreeSlot m (base_in slots (turn_of slots m)) c.in_ok-first.first slots =
+    subst (λ (b : ℕ). IsFirstFreeSlot m b c.in_ok-first.first slots) base
+    (subst (λ (l : List ℕ). IsFirstFreeSlot l (base_in slots c.home.result) c.in_ok-first.first slots) old
+    c.in_ok-first.ensures.first) in
+    let next = c.later-next.ensures.none (omega (arith, none)) in
     record { all = λ s are. let least = first.first s are in omega (arith, least, next) }
 
 pub returns-then-place-clause-looks : goal.returns-then-place-clause-looks
@@ -69,8 +69,8 @@ returns-then-place-clause-looks g c = λ fresh. inl fresh
 pub returns-in_err-turn-clause-looks : goal.returns-in_err-turn-clause-looks
 returns-in_err-turn-clause-looks g c = λ fresh. inl fresh
 
-pub returns-in_err-next-clause-looks : goal.returns-in_err-next-clause-looks
-returns-in_err-next-clause-looks g c = λ fresh. inl fresh
+pub returns-in_err-first-clause-looks : goal.returns-in_err-first-clause-looks
+returns-in_err-first-clause-looks g c = λ fresh. inl fresh
 
 pub returns-clause-looks : goal.returns-clause-looks
 returns-clause-looks g c = λ fresh.
@@ -78,34 +78,41 @@ returns-clause-looks g c = λ fresh.
     inr (returns-clause-found g c is.0 is.1)
 
 pub returns-then-place-clause-paced : goal.returns-then-place-clause-paced
-returns-then-place-clause-paced g c = λ unready far. absurd (true≢false (sym c.if-place.true ∙ unready))
+returns-then-place-clause-paced g c = λ extra unready far. absurd (true≢false (sym c.if-place.true ∙ unready))
 
 pub returns-clause-paced : goal.returns-clause-paced
-returns-clause-paced g c = λ unready far.
+returns-clause-paced g c = λ extra unready far.
     let progress = c.in_ok-progress.progress in
-    let least = c.later-place.ensures.least in record {
+    let none = c.in_ok-progress.ensures.idle (omega (arith, far)) in
+    let copied = none.0 in
+    let behind = none.1 in
+    let most = steps_most g.F.Flash.PAGES g.F.Flash.SLOTS g.F.Flash.SECTORS
+    (record c.args.place.now { turn = c.in_ok-turn.turn; erased = progress.erased; copied = progress.copied }) in
+    record {
       ready = refl;
-      room = let most = steps_most g.F.Flash.PAGES g.F.Flash.SLOTS g.F.Flash.SECTORS
-          (record c.args.place.now { turn = c.in_ok-turn.turn; erased = progress.erased; copied = progress.copied }) in
-          omega (arith, far, most);
-      few = c.in_ok-progress.ensures.few;
-      goes_on = λ some. let due = c.in_ok-progress.ensures.due some in omega (arith, due, least);
+      room = omega (arith, far, most);
+      few = omega (arith, behind);
+      goes_on = λ some. absurd (omega (arith, some, copied, behind));
+      passed = ⊎_elim
+          (λ (le : c.args.place.now.tried ≤ c.later-next.result). le)
+          (λ (e : c.later-next.result ≡ g.F.Flash.SLOTS). absurd (omega (arith, e, far)))
+          c.later-next.ensures.passed;
     }
 
 pub returns-in_err-turn-clause-paced : goal.returns-in_err-turn-clause-paced
-returns-in_err-turn-clause-paced g c = λ unready far.
+returns-in_err-turn-clause-paced g c = λ extra unready far.
     let known = free_known g.F.Flash.PAGES g.F.Flash.SLOTS g.F.Flash.SECTORS c.args.place.now
     (lead_of g.F.Flash.PAGES g.F.Flash.SECTORS) far in
     absurd (true≢false (sym known.0 ∙ unready))
 
-pub returns-in_err-next-clause-paced : goal.returns-in_err-next-clause-paced
-returns-in_err-next-clause-paced g c = λ unready far.
+pub returns-in_err-first-clause-paced : goal.returns-in_err-first-clause-paced
+returns-in_err-first-clause-paced g c = λ extra unready far.
     let known = free_known g.F.Flash.PAGES g.F.Flash.SLOTS g.F.Flash.SECTORS c.args.place.now
     (lead_of g.F.Flash.PAGES g.F.Flash.SECTORS) far in
     absurd (true≢false (sym known.0 ∙ unready))
 
 pub returns-in_err-progress-clause-paced : goal.returns-in_err-progress-clause-paced
-returns-in_err-progress-clause-paced g c = λ unready far.
+returns-in_err-progress-clause-paced g c = λ extra unready far.
     let known = free_known g.F.Flash.PAGES g.F.Flash.SLOTS g.F.Flash.SECTORS c.args.place.now
     (lead_of g.F.Flash.PAGES g.F.Flash.SECTORS) far in
     absurd (true≢false (sym known.0 ∙ unready))
@@ -114,39 +121,41 @@ pub returns-in_err-progress-clause-looks : goal.returns-in_err-progress-clause-l
 returns-in_err-progress-clause-looks g c = λ fresh. inl fresh
 
 pub returns-then-place-clause-stands : goal.returns-then-place-clause-stands
-returns-then-place-clause-stands g c = λ stands. stands
+returns-then-place-clause-stands g c = λ extra fits stands. stands
 
 pub returns-then-place-clause-in_pace : goal.returns-then-place-clause-in_pace
-returns-then-place-clause-in_pace g c = ⊎_elim
-    (λ (pace : KeepsPace g.F.Flash.PAGES g.F.Flash.SLOTS g.F.Flash.SECTORS c.args.place.now). pace)
-    (λ (z : (is_fresh c.args.place.now ≡ true) × IsInPace g.F.Flash.PAGES g.F.Flash.SLOTS g.F.Flash.SECTORS
-    g.F.Flash.sector_start (g.F.Flash.state c.args.flash.now).words).
-    let is = fresh_is g.F.Flash.PAGES g.F.Flash.SLOTS g.F.Flash.SECTORS c.args.place.now z.0 in
-    absurd (true≢false (sym c.if-place.true ∙ is.0)))
+returns-then-place-clause-in_pace g c = λ extra fits. ⊎_elim
+    (λ (pace : KeepsPace g.F.Flash.PAGES g.F.Flash.SLOTS g.F.Flash.SECTORS extra c.args.place.now). pace)
+    (λ (z : (c.args.place.now.ready ≡ false) × IsInPaceFrom g.F.Flash.PAGES g.F.Flash.SLOTS g.F.Flash.SECTORS
+    g.F.Flash.sector_start (g.F.Flash.state c.args.flash.now).words extra c.args.place.now.tried).
+    absurd (true≢false (sym c.if-place.true ∙ z.0)))
 
 pub returns-in_err-turn-clause-stands : goal.returns-in_err-turn-clause-stands
-returns-in_err-turn-clause-stands g c = fresh_stands g.F.Flash.PAGES g.F.Flash.SLOTS g.F.Flash.SECTORS
-    g.F.Flash.sector_start (g.F.Flash.state c.args.flash.now).words (g.F.Flash.state c.find_turn.new.flash).words
-    c.args.place.now c.args.place.now c.find_turn.ensures.words c.if-place.false refl
+returns-in_err-turn-clause-stands g c = λ extra fits. fresh_stands g.F.Flash.PAGES g.F.Flash.SLOTS g.F.Flash.SECTORS
+    extra g.F.Flash.sector_start (g.F.Flash.state c.args.flash.now).words
+    (g.F.Flash.state c.find_turn.new.flash).words
+    c.args.place.now c.args.place.now c.find_turn.ensures.words c.if-place.false c.if-place.false refl
 
-pub returns-in_err-next-clause-stands : goal.returns-in_err-next-clause-stands
-returns-in_err-next-clause-stands g c = fresh_stands g.F.Flash.PAGES g.F.Flash.SLOTS g.F.Flash.SECTORS
-    g.F.Flash.sector_start (g.F.Flash.state c.args.flash.now).words (g.F.Flash.state c.scan.new.flash).words
+pub returns-in_err-first-clause-stands : goal.returns-in_err-first-clause-stands
+returns-in_err-first-clause-stands g c = λ extra fits. fresh_stands g.F.Flash.PAGES g.F.Flash.SLOTS g.F.Flash.SECTORS
+    extra g.F.Flash.sector_start (g.F.Flash.state c.args.flash.now).words (g.F.Flash.state c.scan.new.flash).words
     c.args.place.now (record c.args.place.now { table = c.scan.new.table })
-    (c.scan.ensures.words ∙ c.find_turn.ensures.words) c.if-place.false refl
+    (c.scan.ensures.words ∙ c.find_turn.ensures.words) c.if-place.false c.if-place.false refl
 
 pub returns-in_err-progress-clause-stands : goal.returns-in_err-progress-clause-stands
-returns-in_err-progress-clause-stands g c = fresh_stands g.F.Flash.PAGES g.F.Flash.SLOTS g.F.Flash.SECTORS
-    g.F.Flash.sector_start (g.F.Flash.state c.args.flash.now).words (g.F.Flash.state c.progress_at.new.flash).words
+returns-in_err-progress-clause-stands g c = λ extra fits. fresh_stands g.F.Flash.PAGES g.F.Flash.SLOTS
+    g.F.Flash.SECTORS extra g.F.Flash.sector_start (g.F.Flash.state c.args.flash.now).words
+    (g.F.Flash.state c.progress_at.new.flash).words
     c.args.place.now (record c.args.place.now { table = c.scan.new.table })
-    (c.progress_at.ensures.words ∙ c.scan.ensures.words ∙ c.find_turn.ensures.words) c.if-place.false refl
+    (c.progress_at.ensures.words ∙ c.scan.ensures.words ∙ c.find_turn.ensures.words) c.if-place.false
+    c.if-place.false refl
 
 pub returns-clause-in_pace : goal.returns-clause-in_pace
-returns-clause-in_pace g c = ⊎_elim
-    (λ (pace : KeepsPace g.F.Flash.PAGES g.F.Flash.SLOTS g.F.Flash.SECTORS c.args.place.now).
+returns-clause-in_pace g c = λ extra fits. ⊎_elim
+    (λ (pace : KeepsPace g.F.Flash.PAGES g.F.Flash.SLOTS g.F.Flash.SECTORS extra c.args.place.now).
     absurd (true≢false (sym pace.ready ∙ c.if-place.false)))
-    (λ (z : (is_fresh c.args.place.now ≡ true) × IsInPace g.F.Flash.PAGES g.F.Flash.SLOTS g.F.Flash.SECTORS
-    g.F.Flash.sector_start (g.F.Flash.state c.args.flash.now).words).
+    (λ (z : (c.args.place.now.ready ≡ false) × IsInPaceFrom g.F.Flash.PAGES g.F.Flash.SLOTS g.F.Flash.SECTORS
+    g.F.Flash.sector_start (g.F.Flash.state c.args.flash.now).words extra c.args.place.now.tried).
     let slots = g.F.Flash.SLOTS in
     let pages = g.F.Flash.PAGES in
     let sectors = g.F.Flash.SECTORS in
@@ -154,22 +163,40 @@ returns-clause-in_pace g c = ⊎_elim
     let m = (g.F.Flash.state c.args.flash.now).words in
     let turn = c.in_ok-turn.turn in
     let progress = c.in_ok-progress.progress in
-    let fresh = fresh_is pages slots sectors c.args.place.now z.0 in
-    let next : c.later-place.result ≡ c.in_ok-next.next = c.later-place.ensures.none fresh.1 in
+    let tried = c.args.place.now.tried in
+    let next = c.later-next.result in
+    let is = z.1.pace in
     let words : (g.F.Flash.state c.scan.new.flash).words ≡ m = c.scan.ensures.words ∙ c.find_turn.ensures.words in
     let base : base_in slots c.home.result ≡ base_in slots (turn_of slots m) =
     c.home.ensures.is slots ∙ ap (λ (t : ℕ). base_in slots t) c.in_ok-turn.ensures.turn in
-    let first : IsFirstFreeSlot m (base_in slots (turn_of slots m)) c.in_ok-next.next slots =
-    subst (λ (b : ℕ). IsFirstFreeSlot m b c.in_ok-next.next slots) base
-    (subst (λ (l : List ℕ). IsFirstFreeSlot l (base_in slots c.home.result) c.in_ok-next.next slots)
-    c.find_turn.ensures.words c.in_ok-next.ensures.first) in
-    paced_found pages slots sectors start m _ refl c.in_ok-turn.ensures.turn
-    (subst (λ (n : ℕ). IsFirstFreeSlot m (base_in slots (turn_of slots m)) n slots) (sym next) first)
-    c.in_ok-progress.ensures.few
-    (λ some. let due = c.in_ok-progress.ensures.due some in omega (arith, due, next))
-    (λ due. subst (λ (l : List ℕ). IsFurthest pages slots sectors start l turn progress.erased progress.copied) words
-    (c.in_ok-progress.ensures.best (omega (arith, due, next))))
-    z.1)
+    let first : IsFirstFreeSlot m (base_in slots (turn_of slots m)) c.in_ok-first.first slots =
+    subst (λ (b : ℕ). IsFirstFreeSlot m b c.in_ok-first.first slots) base
+    (subst (λ (l : List ℕ). IsFirstFreeSlot l (base_in slots c.home.result) c.in_ok-first.first slots)
+    c.find_turn.ensures.words c.in_ok-first.ensures.first) in
+    let found = first.first is.next is.free in
+    let within = is.free.within in
+    let passed = z.1.passed in
+    let least : next ≤ is.next = ⊎_elim
+    (λ (lt : c.in_ok-first.first < tried).
+    let same = c.later-next.ensures.is (omega (arith, passed, within)) (omega (arith, lt)) in
+    omega (arith, same, passed))
+    (λ (le : tried ≤ c.in_ok-first.first). let same = c.later-next.ensures.none le in omega (arith, same, found))
+    (cases_lt c.in_ok-first.first tried) in
+    let after : tried ≤ next = ⊎_elim
+    (λ (le : tried ≤ next). le)
+    (λ (e : next ≡ slots). omega (arith, e, passed, within))
+    c.later-next.ensures.passed in
+    let due : 0 < progress.copied + progress.behind → slots ≤ next + lead_of pages sectors = λ some. ⊎_elim
+    (λ (far : next + lead_of pages sectors < slots).
+    let none = c.in_ok-progress.ensures.idle far in
+    let copied = none.0 in
+    let behind = none.1 in absurd (omega (arith, copied, behind, some)))
+    (λ (near : slots ≤ next + lead_of pages sectors). near)
+    (cases_lt (next + lead_of pages sectors) slots) in
+    paced_found pages slots sectors extra start m _ refl c.in_ok-turn.ensures.turn due
+    (subst (λ (l : List ℕ). KeepsSteps pages slots sectors start l turn next (extra_of pages slots sectors)
+    progress.erased progress.copied progress.behind) words c.in_ok-progress.ensures.keeps)
+    fits after is least)
 
 pub returns-clause-stands : goal.returns-clause-stands
-returns-clause-stands g c = λ stands. inl (returns-clause-in_pace g c stands)
+returns-clause-stands g c = λ extra fits stands. inl (returns-clause-in_pace g c extra fits stands)

@@ -5,6 +5,10 @@ use Rattle.flash_device.specs.FlashLogs.{words_of}
 use Rattle.flash_log.specs.laws.Moving.{base_other, witness_area}
 use Rattle.flash_log.specs.laws.Sparing.{spare_none}
 use Rattle.flash_device.specs.FlashBlocks.{area_size}
+use Rattle.flash_log.specs.Paces.{KeepsFree}
+use Rattle.flash_device.specs.FlashCalls.{FlashState}
+use Rattle.flash_log.specs.laws.Lighting.{tries_faults}
+use Rattle.flash_log.specs.laws.Losing.{free_then, witness_free}
 use Rattle.flash_log.proofs.steps.make_room.Goals as goal
 use Rattle.flash_log.proofs.steps.make_room.Goals.{then-place-eq1+in_ok-pass_witness, else-place-eq1}
 
@@ -95,7 +99,7 @@ returns-then-place-SLOTS-clause-fresh g c = λ full same.
 pub returns-then-place-eq0-clause-fresh : goal.returns-then-place-eq0-clause-fresh
 returns-then-place-eq0-clause-fresh g c = λ full same.
     let passes = c.in_ok-free_in_b.ensures.passes in (
-      record { ready = refl; free = refl; erased = refl; copied = refl; behind = refl },
+      record { ready = refl; free = refl; tried = refl; erased = refl; copied = refl; behind = refl },
       omega (arith, passes, same),
     )
 
@@ -144,3 +148,69 @@ returns-clause-passes g c = λ full.
       | else-place-eq1 w ↦ λ i. (g.F.Flash.state (w.flash-is i)).faults
     ] in
     omega (arith, passes, still)
+
+pub returns-then-place-SLOTS-clause-keeps_free : goal.returns-then-place-SLOTS-clause-keeps_free
+returns-then-place-SLOTS-clause-keeps_free g c = λ n far free. free
+
+pub returns-in_err-free_in_b-clause-keeps_free : goal.returns-in_err-free_in_b-clause-keeps_free
+returns-in_err-free_in_b-clause-keeps_free g c = c.move_to_b.ensures.keeps_free
+
+pub returns-then-place-eq0-clause-keeps_free : goal.returns-then-place-eq0-clause-keeps_free
+returns-then-place-eq0-clause-keeps_free g c = c.move_to_b.ensures.keeps_free
+
+pub returns-in_err-pass_witness-clause-keeps_free : goal.returns-in_err-pass_witness-clause-keeps_free
+returns-in_err-pass_witness-clause-keeps_free g c = λ n far.
+    let known = c.requires.log.known c.requires.ready in
+    witness_free g.F.Flash.PAGES g.F.Flash.SLOTS (g.F.Flash.state c.args.flash.now).words
+    (g.F.Flash.state c.pass_witness.new.flash).words n (sym known.turn ∙ c.if-place-eq1.true)
+    c.pass_witness.ensures.area c.pass_witness.ensures.passes
+
+pub returns-in_err-free_in_a-clause-keeps_free : goal.returns-in_err-free_in_a-clause-keeps_free
+returns-in_err-free_in_a-clause-keeps_free g c =
+    let slots = g.F.Flash.SLOTS in
+    let pages = g.F.Flash.PAGES in
+    let old = g.F.Flash.state c.args.flash.now in
+    let mid = g.F.Flash.state c.if-place-eq1.flash in
+    let known = c.requires.log.known c.requires.ready in
+    let first : KeepsFree pages slots old mid = elim c.if-place-eq1.branch [
+      | then-place-eq1+in_ok-pass_witness w ↦
+          subst (λ (s : FlashState). KeepsFree pages slots old s) (λ i. g.F.Flash.state ((sym w.flash-is) i))
+          (λ n far. witness_free pages slots old.words (g.F.Flash.state w.pass_witness.new.flash).words n
+          (sym known.turn ∙ w.if-place-eq1.true) w.pass_witness.ensures.area w.pass_witness.ensures.passes)
+      | else-place-eq1 w ↦
+          subst (λ (s : FlashState). KeepsFree pages slots old s) (λ i. g.F.Flash.state ((sym w.flash-is) i))
+          (λ n far free. free)
+    ] in
+    let still : mid.faults ≡ old.faults = elim c.if-place-eq1.branch [
+      | then-place-eq1+in_ok-pass_witness w ↦
+          (λ i. (g.F.Flash.state (w.flash-is i)).faults) ∙ (w.in_ok-pass_witness.ensures.light.ok refl).faults
+      | else-place-eq1 w ↦ λ i. (g.F.Flash.state (w.flash-is i)).faults
+    ] in
+    let new = g.F.Flash.state c.move_to_a.new.flash in
+    let more = tries_faults 1 mid new c.move_to_a.result c.move_to_a.ensures.light in
+    free_then pages slots old mid new (omega (arith, still)) more first c.move_to_a.ensures.keeps_free
+
+pub returns-clause-keeps_free : goal.returns-clause-keeps_free
+returns-clause-keeps_free g c =
+    let slots = g.F.Flash.SLOTS in
+    let pages = g.F.Flash.PAGES in
+    let old = g.F.Flash.state c.args.flash.now in
+    let mid = g.F.Flash.state c.if-place-eq1.flash in
+    let known = c.requires.log.known c.requires.ready in
+    let first : KeepsFree pages slots old mid = elim c.if-place-eq1.branch [
+      | then-place-eq1+in_ok-pass_witness w ↦
+          subst (λ (s : FlashState). KeepsFree pages slots old s) (λ i. g.F.Flash.state ((sym w.flash-is) i))
+          (λ n far. witness_free pages slots old.words (g.F.Flash.state w.pass_witness.new.flash).words n
+          (sym known.turn ∙ w.if-place-eq1.true) w.pass_witness.ensures.area w.pass_witness.ensures.passes)
+      | else-place-eq1 w ↦
+          subst (λ (s : FlashState). KeepsFree pages slots old s) (λ i. g.F.Flash.state ((sym w.flash-is) i))
+          (λ n far free. free)
+    ] in
+    let still : mid.faults ≡ old.faults = elim c.if-place-eq1.branch [
+      | then-place-eq1+in_ok-pass_witness w ↦
+          (λ i. (g.F.Flash.state (w.flash-is i)).faults) ∙ (w.in_ok-pass_witness.ensures.light.ok refl).faults
+      | else-place-eq1 w ↦ λ i. (g.F.Flash.state (w.flash-is i)).faults
+    ] in
+    let new = g.F.Flash.state c.move_to_a.new.flash in
+    let more = tries_faults 1 mid new c.move_to_a.result c.move_to_a.ensures.light in
+    free_then pages slots old mid new (omega (arith, still)) more first c.move_to_a.ensures.keeps_free

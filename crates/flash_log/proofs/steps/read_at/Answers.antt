@@ -27,7 +27,9 @@ returns-clause-looks g c = λ fresh.
     inr (c.in_ok-find_pages.ensures.found is.0 is.1)
 
 pub returns-in_err-word-clause-stands : goal.returns-in_err-word-clause-stands
-returns-in_err-word-clause-stands g c = λ stands. inl (c.in_ok-find_pages.ensures.in_pace stands)
+returns-in_err-word-clause-stands g c = λ extra fits stands.
+    inl (c.in_ok-find_pages.ensures.in_pace extra fits stands)
 
 pub returns-clause-stands : goal.returns-clause-stands
-returns-clause-stands g c = λ stands. inl (c.in_ok-find_pages.ensures.in_pace stands)
+returns-clause-stands g c = λ extra fits stands.
+    inl (c.in_ok-find_pages.ensures.in_pace extra fits stands)

@@ -3,10 +3,12 @@ use Rattle.std.proofs.lemmas.Result.{on_ok_weaker}
 use Rattle.flash_device.specs.FlashLogs.{words_of}
 use Rattle.flash_log.specs.declared.place.PageMap.{PageMap}
 use Rattle.flash_device.specs.FlashCalls.{FlashState}
-use Rattle.flash_log.specs.Paces.{IsRoomy, KeepsPace, RegainsSlots, WillKeepPace, free_slots}
+use Rattle.flash_log.specs.Paces.{CopiesNoPageAt, IsInPace, IsRoomy, KeepsPace, RegainsSlots, WillKeepPace, free_slots}
+use Rattle.flash_log.specs.Paces.{extra_slots, failed_since}
 use Rattle.flash_log.specs.Places.{FindsFree}
 use Rattle.flash_log.specs.laws.Lighting.{failed_costs, last_costs, tries_faults}
-use Rattle.flash_log.specs.laws.Pacing.{holds_since, holds_still, pauses_since, takes_since}
+use Rattle.flash_log.specs.laws.Pacing.{holds_since, holds_still, paced_more, stands_more, takes_since}
+use Rattle.flash_log.specs.laws.Retrying.{failed_again, pauses_again, stands_again, stands_failed}
 use Rattle.flash_area.specs.laws.Words.{length-words}
 use Rattle.flash_log.specs.laws.Writing.{whole_again, done_again}
 use Rattle.flash_log.proofs.steps.write_at.Goals as goal
@@ -18,6 +20,14 @@ loop-init g c = record {
   failed = omega arith;
   operations = omega arith;
   first = λ same. (refl, refl);
+  stood = λ extra roomy.
+      let old = g.F.Flash.state c.args.flash.now in
+      let place = c.args.place.now in
+      stands_more g.F.Flash.PAGES g.F.Flash.SLOTS g.F.Flash.SECTORS g.F.Flash.sector_start old.words extra
+      (extra + failed_since old old) place (omega arith)
+      (paced_more g.F.Flash.PAGES g.F.Flash.SLOTS g.F.Flash.SECTORS extra (extra + failed_since old old) place
+      (omega arith));
+  brief = λ extra roomy pace. (omega arith, omega arith);
   log = c.requires.log;
   whole = inl refl;
 }
@@ -48,6 +58,23 @@ loop-preserved g c =
           (omega arith) _ _ _ _ _ _
           was.operations (omega (arith, more)) work more;
       first = λ same. let before = was.steady.faults in absurd (omega (arith, same, before, more));
+      stood = λ extra roomy pace.
+          let old = g.F.Flash.state c.args.flash.now in
+          let tried = g.F.Flash.state c.loop.flash in
+          let new = g.F.Flash.state c.write_once.new.flash in
+          let less = was.steady.faults in
+          stands_failed pages slots g.F.Flash.SECTORS extra g.F.Flash.sector_start old tried new less
+          (omega (arith, more)) c.write_once.new.place power.due
+          (c.write_once.ensures.stands (extra + failed_since old tried) (omega (arith, roomy, less, more))
+          (was.stood extra (omega (arith, roomy, less, more)) pace));
+      brief = λ extra roomy pace.
+          let old = g.F.Flash.state c.args.flash.now in
+          let tried = g.F.Flash.state c.loop.flash in
+          let new = g.F.Flash.state c.write_once.new.flash in
+          let less = was.steady.faults in
+          failed_again old tried new (omega (arith, more)) (was.brief extra (omega (arith, roomy, less, more)) pace)
+          ((c.write_once.ensures.pause (extra + failed_since old tried) (omega (arith, roomy, less, more))).short
+          (was.stood extra (omega (arith, roomy, less, more)) pace));
       log = c.write_once.ensures.log;
       whole = whole_again m mid after c.args.words.now at fits was.whole c.write_once.ensures.whole;
     }
@@ -147,49 +174,58 @@ returns-in-Err-PowerLost-clause-work g c =
     }
 
 pub returns-clause-pause : goal.returns-clause-pause
-returns-clause-pause g c = λ roomy.
+returns-clause-pause g c = λ extra roomy.
     let slots = g.F.Flash.SLOTS in
     let pages = g.F.Flash.PAGES in
     let sectors = g.F.Flash.SECTORS in
+    let start = g.F.Flash.sector_start in
+    let old = g.F.Flash.state c.args.flash.now in
     let mid = g.F.Flash.state c.loop.flash in
     let new = g.F.Flash.state c.write_once-2.new.flash in
+    let was = c.loop.invariant in
+    let less = was.steady.faults in
     let more = tries_faults 1 mid new c.write_once-2.result c.write_once-2.ensures.light in
-    pauses_since pages slots sectors 37 (g.F.Flash.state c.args.flash.now) mid new c.args.place.now
-    c.loop.place (λ (s : FlashState). WillKeepPace pages slots sectors g.F.Flash.sector_start s.words)
-    (KeepsPace pages slots sectors c.write_once-2.new.place) _ c.loop.invariant.steady.faults more
-    c.loop.invariant.first
-    (c.write_once-2.ensures.pause roomy)
+    pauses_again pages slots sectors extra start old mid new less more c.args.place.now c.loop.place
+    c.write_once-2.new.place _ was.first (was.brief extra (omega (arith, roomy, less, more)))
+    (was.stood extra (omega (arith, roomy, less, more)))
+    (c.write_once-2.ensures.pause (extra + failed_since old mid) (omega (arith, roomy, less, more)))
 
 pub returns-in-Ok-clause-pause : goal.returns-in-Ok-clause-pause
-returns-in-Ok-clause-pause g c = λ roomy.
+returns-in-Ok-clause-pause g c = λ extra roomy.
     let slots = g.F.Flash.SLOTS in
     let pages = g.F.Flash.PAGES in
     let sectors = g.F.Flash.SECTORS in
+    let start = g.F.Flash.sector_start in
+    let old = g.F.Flash.state c.args.flash.now in
     let mid = g.F.Flash.state c.loop.flash in
     let new = g.F.Flash.state c.write_once.new.flash in
+    let was = c.loop.invariant in
+    let less = was.steady.faults in
     let more = tries_faults 1 mid new c.write_once.result c.write_once.ensures.light in
-    pauses_since pages slots sectors 37 (g.F.Flash.state c.args.flash.now) mid new c.args.place.now
-    c.loop.place (λ (s : FlashState). WillKeepPace pages slots sectors g.F.Flash.sector_start s.words)
-    (KeepsPace pages slots sectors c.write_once.new.place) _ c.loop.invariant.steady.faults more
-    c.loop.invariant.first
-    (c.in-Ok.ensures.pause roomy)
+    pauses_again pages slots sectors extra start old mid new less more c.args.place.now c.loop.place
+    c.write_once.new.place _ was.first (was.brief extra (omega (arith, roomy, less, more)))
+    (was.stood extra (omega (arith, roomy, less, more)))
+    (c.in-Ok.ensures.pause (extra + failed_since old mid) (omega (arith, roomy, less, more)))
 
 pub returns-in-Err-PowerLost-clause-pause : goal.returns-in-Err-PowerLost-clause-pause
-returns-in-Err-PowerLost-clause-pause g c = λ roomy.
+returns-in-Err-PowerLost-clause-pause g c = λ extra roomy.
     let slots = g.F.Flash.SLOTS in
     let pages = g.F.Flash.PAGES in
     let sectors = g.F.Flash.SECTORS in
+    let start = g.F.Flash.sector_start in
+    let old = g.F.Flash.state c.args.flash.now in
     let mid = g.F.Flash.state c.loop.flash in
     let new = g.F.Flash.state c.write_once.new.flash in
+    let was = c.loop.invariant in
+    let less = was.steady.faults in
     let more = tries_faults 1 mid new c.write_once.result c.write_once.ensures.light in
-    let pause = pauses_since pages slots sectors 37 (g.F.Flash.state c.args.flash.now) mid new c.args.place.now
-    c.loop.place (λ (s : FlashState). WillKeepPace pages slots sectors g.F.Flash.sector_start s.words)
-    (KeepsPace pages slots sectors c.write_once.new.place) _ c.loop.invariant.steady.faults more
-    c.loop.invariant.first
-    (c.in-Err-PowerLost.ensures.pause roomy) in
+    let pause = pauses_again pages slots sectors extra start old mid new less more c.args.place.now c.loop.place
+    c.write_once.new.place _ was.first (was.brief extra (omega (arith, roomy, less, more)))
+    (was.stood extra (omega (arith, roomy, less, more)))
+    (c.in-Err-PowerLost.ensures.pause (extra + failed_since old mid) (omega (arith, roomy, less, more))) in
     record {
       short = pause.short;
-      stays = λ same pace ok. absurd (true≢false (sym ok));
+      stays = λ pace ok. absurd (true≢false (sym ok));
       long = λ same ok. absurd (true≢false (sym ok));
     }
 
@@ -235,17 +271,19 @@ returns-in-Err-PowerLost-clause-calm g c = λ far same.
     }
 
 pub returns-in-Ok-clause-regains : goal.returns-in-Ok-clause-regains
-returns-in-Ok-clause-regains g c = λ roomy.
+returns-in-Ok-clause-regains g c = λ extra roomy.
     let slots = g.F.Flash.SLOTS in
     let pages = g.F.Flash.PAGES in
     let sectors = g.F.Flash.SECTORS in
     let mid = g.F.Flash.state c.loop.flash in
     let new = g.F.Flash.state c.write_once.new.flash in
     let after = free_slots slots c.write_once.new.place in
+    let given = extra_slots c.write_once.new.place in
     let more = tries_faults 1 mid new c.write_once.result c.write_once.ensures.light in
     holds_since pages slots sectors (g.F.Flash.state c.args.flash.now) mid new c.args.place.now c.loop.place
-    (λ (z : PageMap _). KeepsPace pages slots sectors z → RegainsSlots pages slots (free_slots slots z) after)
-    c.loop.invariant.steady.faults more c.loop.invariant.first (c.in-Ok.ensures.regains roomy)
+    (λ (z : PageMap _). KeepsPace pages slots sectors extra z → RegainsSlots pages slots extra
+    (free_slots slots z) after given)
+    c.loop.invariant.steady.faults more c.loop.invariant.first (c.in-Ok.ensures.regains extra roomy)
 
 pub returns-clause-regains : goal.returns-clause-regains
 returns-clause-regains g c =
@@ -255,28 +293,32 @@ returns-clause-regains g c =
     let mid = g.F.Flash.state c.loop.flash in
     let new = g.F.Flash.state c.write_once-2.new.flash in
     let after = free_slots slots c.write_once-2.new.place in
+    let given = extra_slots c.write_once-2.new.place in
     let more = tries_faults 1 mid new c.write_once-2.result c.write_once-2.ensures.light in
     on_ok_weaker c.write_once-2.result
-    (λ (regains : IsRoomy pages slots sectors → new.faults ≡ mid.faults → KeepsPace pages slots sectors c.loop.place
-    → RegainsSlots pages slots (free_slots slots c.loop.place) after). λ roomy.
+    (λ (regains : (extra : ℕ) → IsRoomy pages slots sectors extra → new.faults ≡ mid.faults
+    → KeepsPace pages slots sectors extra c.loop.place
+    → RegainsSlots pages slots extra (free_slots slots c.loop.place) after given). λ extra roomy.
     holds_since pages slots sectors (g.F.Flash.state c.args.flash.now) mid new c.args.place.now c.loop.place
-    (λ (z : PageMap _). KeepsPace pages slots sectors z → RegainsSlots pages slots (free_slots slots z) after)
-    c.loop.invariant.steady.faults more c.loop.invariant.first (regains roomy))
+    (λ (z : PageMap _). KeepsPace pages slots sectors extra z → RegainsSlots pages slots extra
+    (free_slots slots z) after given)
+    c.loop.invariant.steady.faults more c.loop.invariant.first (regains extra roomy))
     c.write_once-2.ensures.regains
 
 pub returns-in-Ok-clause-regains_found : goal.returns-in-Ok-clause-regains_found
-returns-in-Ok-clause-regains_found g c = λ roomy.
+returns-in-Ok-clause-regains_found g c = λ extra roomy.
     let slots = g.F.Flash.SLOTS in
     let pages = g.F.Flash.PAGES in
     let sectors = g.F.Flash.SECTORS in
     let mid = g.F.Flash.state c.loop.flash in
     let new = g.F.Flash.state c.write_once.new.flash in
     let after = free_slots slots c.write_once.new.place in
+    let given = extra_slots c.write_once.new.place in
     let more = tries_faults 1 mid new c.write_once.result c.write_once.ensures.light in
     holds_still pages slots sectors (g.F.Flash.state c.args.flash.now) mid new c.args.place.now c.loop.place
-    (λ (s : FlashState). λ (z : PageMap _). WillKeepPace pages slots sectors g.F.Flash.sector_start s.words z
-    → (n : ℕ) → FindsFree slots s.words n → RegainsSlots pages slots n after)
-    c.loop.invariant.steady.faults more c.loop.invariant.first (c.in-Ok.ensures.regains_found roomy)
+    (λ (s : FlashState). λ (z : PageMap _). WillKeepPace pages slots sectors g.F.Flash.sector_start s.words extra z
+    → (n : ℕ) → FindsFree slots s.words n → RegainsSlots pages slots extra n after given)
+    c.loop.invariant.steady.faults more c.loop.invariant.first (c.in-Ok.ensures.regains_found extra roomy)
 
 pub returns-clause-regains_found : goal.returns-clause-regains_found
 returns-clause-regains_found g c =
@@ -287,13 +329,104 @@ returns-clause-regains_found g c =
     let mid = g.F.Flash.state c.loop.flash in
     let new = g.F.Flash.state c.write_once-2.new.flash in
     let after = free_slots slots c.write_once-2.new.place in
+    let given = extra_slots c.write_once-2.new.place in
     let more = tries_faults 1 mid new c.write_once-2.result c.write_once-2.ensures.light in
     on_ok_weaker c.write_once-2.result
-    (λ (regains : IsRoomy pages slots sectors → new.faults ≡ mid.faults
-    → WillKeepPace pages slots sectors start mid.words c.loop.place
-    → (n : ℕ) → FindsFree slots mid.words n → RegainsSlots pages slots n after). λ roomy.
+    (λ (regains : (extra : ℕ) → IsRoomy pages slots sectors extra → new.faults ≡ mid.faults
+    → WillKeepPace pages slots sectors start mid.words extra c.loop.place
+    → (n : ℕ) → FindsFree slots mid.words n → RegainsSlots pages slots extra n after given). λ extra roomy.
     holds_still pages slots sectors (g.F.Flash.state c.args.flash.now) mid new c.args.place.now c.loop.place
-    (λ (s : FlashState). λ (z : PageMap _). WillKeepPace pages slots sectors start s.words z
-    → (n : ℕ) → FindsFree slots s.words n → RegainsSlots pages slots n after)
-    c.loop.invariant.steady.faults more c.loop.invariant.first (regains roomy))
+    (λ (s : FlashState). λ (z : PageMap _). WillKeepPace pages slots sectors start s.words extra z
+    → (n : ℕ) → FindsFree slots s.words n → RegainsSlots pages slots extra n after given)
+    c.loop.invariant.steady.faults more c.loop.invariant.first (regains extra roomy))
     c.write_once-2.ensures.regains_found
+
+pub returns-in-Ok-clause-lost : goal.returns-in-Ok-clause-lost
+returns-in-Ok-clause-lost g c = λ extra roomy.
+    let slots = g.F.Flash.SLOTS in
+    let pages = g.F.Flash.PAGES in
+    let sectors = g.F.Flash.SECTORS in
+    let start = g.F.Flash.sector_start in
+    let mid = g.F.Flash.state c.loop.flash in
+    let new = g.F.Flash.state c.write_once.new.flash in
+    let more = tries_faults 1 mid new c.write_once.result c.write_once.ensures.light in
+    holds_still pages slots sectors (g.F.Flash.state c.args.flash.now) mid new c.args.place.now c.loop.place
+    (λ (s : FlashState). λ (z : PageMap _). WillKeepPace pages slots sectors start s.words extra z
+    → CopiesNoPageAt pages slots sectors s z new → IsInPace pages slots sectors start new.words extra)
+    c.loop.invariant.steady.faults more c.loop.invariant.first (c.write_once.ensures.lost extra roomy)
+
+pub returns-in-Err-PowerLost-clause-lost : goal.returns-in-Err-PowerLost-clause-lost
+returns-in-Err-PowerLost-clause-lost g c = λ extra roomy.
+    let slots = g.F.Flash.SLOTS in
+    let pages = g.F.Flash.PAGES in
+    let sectors = g.F.Flash.SECTORS in
+    let start = g.F.Flash.sector_start in
+    let mid = g.F.Flash.state c.loop.flash in
+    let new = g.F.Flash.state c.write_once.new.flash in
+    let more = tries_faults 1 mid new c.write_once.result c.write_once.ensures.light in
+    holds_still pages slots sectors (g.F.Flash.state c.args.flash.now) mid new c.args.place.now c.loop.place
+    (λ (s : FlashState). λ (z : PageMap _). WillKeepPace pages slots sectors start s.words extra z
+    → CopiesNoPageAt pages slots sectors s z new → IsInPace pages slots sectors start new.words extra)
+    c.loop.invariant.steady.faults more c.loop.invariant.first (c.write_once.ensures.lost extra roomy)
+
+pub returns-clause-lost : goal.returns-clause-lost
+returns-clause-lost g c = λ extra roomy.
+    let slots = g.F.Flash.SLOTS in
+    let pages = g.F.Flash.PAGES in
+    let sectors = g.F.Flash.SECTORS in
+    let start = g.F.Flash.sector_start in
+    let mid = g.F.Flash.state c.loop.flash in
+    let new = g.F.Flash.state c.write_once-2.new.flash in
+    let more = tries_faults 1 mid new c.write_once-2.result c.write_once-2.ensures.light in
+    holds_still pages slots sectors (g.F.Flash.state c.args.flash.now) mid new c.args.place.now c.loop.place
+    (λ (s : FlashState). λ (z : PageMap _). WillKeepPace pages slots sectors start s.words extra z
+    → CopiesNoPageAt pages slots sectors s z new → IsInPace pages slots sectors start new.words extra)
+    c.loop.invariant.steady.faults more c.loop.invariant.first (c.write_once-2.ensures.lost extra roomy)
+
+pub returns-clause-stands : goal.returns-clause-stands
+returns-clause-stands g c = λ extra roomy pace.
+    let slots = g.F.Flash.SLOTS in
+    let pages = g.F.Flash.PAGES in
+    let sectors = g.F.Flash.SECTORS in
+    let start = g.F.Flash.sector_start in
+    let old = g.F.Flash.state c.args.flash.now in
+    let mid = g.F.Flash.state c.loop.flash in
+    let new = g.F.Flash.state c.write_once-2.new.flash in
+    let was = c.loop.invariant in
+    let less = was.steady.faults in
+    let more = tries_faults 1 mid new c.write_once-2.result c.write_once-2.ensures.light in
+    stands_again pages slots sectors extra start old mid new less more c.write_once-2.new.place was.steady.due
+    (c.write_once-2.ensures.stands (extra + failed_since old mid) (omega (arith, roomy, less, more))
+    (was.stood extra (omega (arith, roomy, less, more)) pace))
+
+pub returns-in-Ok-clause-stands : goal.returns-in-Ok-clause-stands
+returns-in-Ok-clause-stands g c = λ extra roomy pace.
+    let slots = g.F.Flash.SLOTS in
+    let pages = g.F.Flash.PAGES in
+    let sectors = g.F.Flash.SECTORS in
+    let start = g.F.Flash.sector_start in
+    let old = g.F.Flash.state c.args.flash.now in
+    let mid = g.F.Flash.state c.loop.flash in
+    let new = g.F.Flash.state c.write_once.new.flash in
+    let was = c.loop.invariant in
+    let less = was.steady.faults in
+    let more = tries_faults 1 mid new c.write_once.result c.write_once.ensures.light in
+    stands_again pages slots sectors extra start old mid new less more c.write_once.new.place was.steady.due
+    (c.write_once.ensures.stands (extra + failed_since old mid) (omega (arith, roomy, less, more))
+    (was.stood extra (omega (arith, roomy, less, more)) pace))
+
+pub returns-in-Err-PowerLost-clause-stands : goal.returns-in-Err-PowerLost-clause-stands
+returns-in-Err-PowerLost-clause-stands g c = λ extra roomy pace.
+    let slots = g.F.Flash.SLOTS in
+    let pages = g.F.Flash.PAGES in
+    let sectors = g.F.Flash.SECTORS in
+    let start = g.F.Flash.sector_start in
+    let old = g.F.Flash.state c.args.flash.now in
+    let mid = g.F.Flash.state c.loop.flash in
+    let new = g.F.Flash.state c.write_once.new.flash in
+    let was = c.loop.invariant in
+    let less = was.steady.faults in
+    let more = tries_faults 1 mid new c.write_once.result c.write_once.ensures.light in
+    stands_again pages slots sectors extra start old mid new less more c.write_once.new.place was.steady.due
+    (c.write_once.ensures.stands (extra + failed_since old mid) (omega (arith, roomy, less, more))
+    (was.stood extra (omega (arith, roomy, less, more)) pace))

@@ -1,7 +1,8 @@
-use Rattle.std.proofs.Common.{◌≡◌, ◌⊎◌, ◌≤◌, ◌+◌, ◌*◌, false}
+use Rattle.std.proofs.Common.{◌≡◌, ◌⊎◌, ◌≤◌, ◌+◌, ◌*◌, ℕ, false}
 use Rattle.nvm_board.specs.History.{written}
 use Rattle.flash_device.specs.FlashCalls.{KeepsPower}
 use Rattle.flash_device.specs.FlashLogs.{words_of}
+use Rattle.flash_log.specs.Paces.{IsRoomy, WillKeepPace, failed_since}
 use Rattle.flash_log.specs.Places.{IsLog}
 use Rattle.flash_log.proofs.steps.write_at.Given as goal
 
@@ -13,6 +14,16 @@ invariant-loop g l = let old = g.F.Flash.state l.initial.flash in let new = g.F.
   operations : new.operations + (2 * g.F.Flash.PAGES + 42 + g.F.Flash.SECTORS) * old.faults
       ≤ old.operations + (2 * g.F.Flash.PAGES + 42 + g.F.Flash.SECTORS) * new.faults;
   first : new.faults ≡ old.faults → (l.place ≡ l.initial.place) × (new ≡ old);
+  stood : (extra : ℕ) → IsRoomy g.F.Flash.PAGES g.F.Flash.SLOTS g.F.Flash.SECTORS (extra + failed_since old new)
+      → WillKeepPace g.F.Flash.PAGES g.F.Flash.SLOTS g.F.Flash.SECTORS g.F.Flash.sector_start old.words extra
+      l.initial.place
+      → WillKeepPace g.F.Flash.PAGES g.F.Flash.SLOTS g.F.Flash.SECTORS g.F.Flash.sector_start new.words
+      (extra + failed_since old new) l.place;
+  brief : (extra : ℕ) → IsRoomy g.F.Flash.PAGES g.F.Flash.SLOTS g.F.Flash.SECTORS (extra + failed_since old new)
+      → WillKeepPace g.F.Flash.PAGES g.F.Flash.SLOTS g.F.Flash.SECTORS g.F.Flash.sector_start old.words extra
+      l.initial.place
+      → (new.operations + 39 * old.faults ≤ old.operations + 39 * new.faults)
+      × (new.erases + old.faults ≤ old.erases + new.faults);
   log : IsLog g.F.Table.PageTable.entries g.F.Flash.PAGES g.F.Flash.SLOTS g.F.Flash.SECTORS g.F.Flash.sector_start
       new.words l.place;
   whole : (words_of g.F.Flash.PAGES g.F.Flash.SLOTS new.words ≡ words_of g.F.Flash.PAGES g.F.Flash.SLOTS old.words)

@@ -35,7 +35,7 @@ returns-clause-blank g c =
     c.close.ensures.elsewhere
 
 pub returns-clause-in_pace : goal.returns-clause-in_pace
-returns-clause-in_pace g c = λ roomy.
+returns-clause-in_pace g c = λ extra roomy.
     let slots = g.F.Flash.SLOTS in
     let pages = g.F.Flash.PAGES in
     let sectors = g.F.Flash.SECTORS in
@@ -48,6 +48,7 @@ returns-clause-in_pace g c = λ roomy.
       erased = 0;
       copied = 0;
       behind = 0;
+      older = 0;
       next = 0;
       spare = spare_none pages slots sectors g.F.Flash.sector_start g.met.F.Flash.sectors_rise fit.0 fit.1 fit.2 fit.4
           g.met.F.Flash.pages_fit.0 m (words_of pages slots m) (turn_of slots m);

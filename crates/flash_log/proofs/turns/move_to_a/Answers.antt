@@ -1,12 +1,14 @@
-use Rattle.std.proofs.Common.{◌≡◌, ◌≤◌, ◌<◌, ◌+◌, ⊎_elim, refl, sym, ◌∙◌, inl, inr, arith}
+use Rattle.std.proofs.Common.{◌≡◌, ◌⊎◌, ◌<◌, ◌≤◌, ◌+◌, ap, ⊎_elim, refl, sym, ◌∙◌, inl, inr, arith}
 use Rattle.std.proofs.Common.{true≢false}
-use Rattle.flash_device.specs.FlashLogs.{turn_of}
+use Rattle.flash_device.specs.FlashLogs.{base_in, turn_of}
 use Rattle.flash_area.specs.laws.Copying.{SameArea, area_found, area_free}
-use Rattle.flash_log.specs.laws.Moving.{Passes, Stays, two_stays, two_passes}
+use Rattle.flash_log.specs.laws.Moving.{Passes, Stays, whole_area, two_stays, two_passes}
 use Rattle.flash_log.specs.laws.Turns.{two_marks}
 use Rattle.flash_device.specs.laws.Marks.{closed_same}
 use Rattle.flash_log.specs.laws.Renewing.{same_held}
 use Rattle.flash_device.specs.FlashBlocks.{area_size, witness_start}
+use Rattle.flash_log.specs.laws.Lighting.{lights_faults}
+use Rattle.flash_log.specs.laws.Losing.{free_by_area, free_by_turn}
 use Rattle.flash_log.proofs.turns.move_to_a.Goals as goal
 
 pub returns-in_err-next-clause-words : goal.returns-in_err-next-clause-words
@@ -137,3 +139,79 @@ returns-clause-have g c = λ none.
           c.close.ensures.elsewhere.same k (inl x);
     } in
     same_held pages slots mid after 0 c.in_ok-next.next same (c.in_ok-next.ensures.have (sym closed ∙ none))
+
+pub returns-in_err-next-clause-keeps_free : goal.returns-in_err-next-clause-keeps_free
+returns-in_err-next-clause-keeps_free g c = λ n far.
+    let slots = g.F.Flash.SLOTS in
+    let pages = g.F.Flash.PAGES in
+    let m = (g.F.Flash.state c.args.flash.now).words in
+    let mid = (g.F.Flash.state c.erase_and_copy.new.flash).words in
+    let stays : Stays pages slots m mid = two_stays pages slots m mid c.requires.turn
+    c.erase_and_copy.ensures.elsewhere in
+    free_by_area pages slots m mid (area_size slots) n (ap (base_in slots) c.requires.turn)
+    (ap (base_in slots) (stays.turn ∙ c.requires.turn))
+    (whole_area pages slots m mid 1 0 refl c.erase_and_copy.ensures.elsewhere)
+
+pub returns-in_err-close-clause-keeps_free : goal.returns-in_err-close-clause-keeps_free
+returns-in_err-close-clause-keeps_free g c = λ n far.
+    let slots = g.F.Flash.SLOTS in
+    let pages = g.F.Flash.PAGES in
+    let m = (g.F.Flash.state c.args.flash.now).words in
+    let mid = (g.F.Flash.state c.erase_and_copy.new.flash).words in
+    let after = (g.F.Flash.state c.close.new.flash).words in
+    let passes : Passes pages slots m after 2 0 =
+    two_passes pages slots m mid after c.requires.turn c.erase_and_copy.ensures.elsewhere
+    c.in_ok-next.ensures.open
+    c.close.ensures.elsewhere c.in_ok-next.ensures.pages in
+    let turns : (base_in slots (turn_of slots after) ≡ area_size slots) ⊎ (base_in slots (turn_of slots after) ≡ 0) =
+    ⊎_elim (λ (e : turn_of slots after ≡ 2). inl (ap (base_in slots) e))
+    (λ (e : turn_of slots after ≡ 0). inr (ap (base_in slots) e)) passes.turn in
+    let here : SameArea slots m after (area_size slots) = record {
+      each = λ k low high.
+          let x : k < witness_start slots = omega (arith, high) in
+          let y : 0 + area_size slots ≤ k = omega (arith, low) in
+          c.close.ensures.elsewhere.same k (inl x) ∙ c.erase_and_copy.ensures.elsewhere.same k (inr y);
+    } in
+    let there : SameArea slots mid after 0 = record {
+      each = λ k low high. let x : k < witness_start slots = omega (arith, high) in
+          c.close.ensures.elsewhere.same k (inl x);
+    } in
+    let more = lights_faults (g.F.Flash.state c.erase_and_copy.new.flash) (g.F.Flash.state c.close.new.flash)
+    c.close.result c.close.ensures.light in
+    let few = c.in_ok-next.ensures.passes in
+    free_by_turn pages slots m after (area_size slots) 0 c.in_ok-next.next n
+    (ap (base_in slots) c.requires.turn) turns here
+    (area_free slots mid after 0 there c.in_ok-next.next c.in_ok-next.ensures.free)
+    (omega (arith, few, more, far))
+
+pub returns-clause-keeps_free : goal.returns-clause-keeps_free
+returns-clause-keeps_free g c = λ n far.
+    let slots = g.F.Flash.SLOTS in
+    let pages = g.F.Flash.PAGES in
+    let m = (g.F.Flash.state c.args.flash.now).words in
+    let mid = (g.F.Flash.state c.erase_and_copy.new.flash).words in
+    let after = (g.F.Flash.state c.close.new.flash).words in
+    let passes : Passes pages slots m after 2 0 =
+    two_passes pages slots m mid after c.requires.turn c.erase_and_copy.ensures.elsewhere
+    c.in_ok-next.ensures.open
+    c.close.ensures.elsewhere c.in_ok-next.ensures.pages in
+    let turns : (base_in slots (turn_of slots after) ≡ area_size slots) ⊎ (base_in slots (turn_of slots after) ≡ 0) =
+    ⊎_elim (λ (e : turn_of slots after ≡ 2). inl (ap (base_in slots) e))
+    (λ (e : turn_of slots after ≡ 0). inr (ap (base_in slots) e)) passes.turn in
+    let here : SameArea slots m after (area_size slots) = record {
+      each = λ k low high.
+          let x : k < witness_start slots = omega (arith, high) in
+          let y : 0 + area_size slots ≤ k = omega (arith, low) in
+          c.close.ensures.elsewhere.same k (inl x) ∙ c.erase_and_copy.ensures.elsewhere.same k (inr y);
+    } in
+    let there : SameArea slots mid after 0 = record {
+      each = λ k low high. let x : k < witness_start slots = omega (arith, high) in
+          c.close.ensures.elsewhere.same k (inl x);
+    } in
+    let more = lights_faults (g.F.Flash.state c.erase_and_copy.new.flash) (g.F.Flash.state c.close.new.flash)
+    c.close.result c.close.ensures.light in
+    let few = c.in_ok-next.ensures.passes in
+    free_by_turn pages slots m after (area_size slots) 0 c.in_ok-next.next n
+    (ap (base_in slots) c.requires.turn) turns here
+    (area_free slots mid after 0 there c.in_ok-next.next c.in_ok-next.ensures.free)
+    (omega (arith, few, more, far))

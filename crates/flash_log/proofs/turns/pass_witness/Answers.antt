@@ -1,4 +1,4 @@
-use Rattle.std.proofs.Common.{◌≡◌, ◌≤◌, ◌+◌, false, ⊎_elim, sym, ◌∙◌, inl, arith}
+use Rattle.std.proofs.Common.{◌≡◌, ◌≤◌, ◌+◌, false, ⊎_elim, sym, ◌∙◌, inl, inr, arith}
 use Rattle.std.proofs.Common.{true≢false}
 use Rattle.flash_device.specs.FlashLogs.{turn_of, is_closed as has_closed}
 use Rattle.flash_log.specs.laws.Moving.{Passes, Stays, one_stays}
@@ -109,3 +109,30 @@ close-requires-clause-opened g c =
     let before : (close_b slots) + 2 ≤ (witness_start slots) = omega arith in
     closed_same m mid (close_b slots) (witness_start slots) 2 c.erase_witness.ensures.elsewhere (inl before)
     ∙ (one_marks slots m c.requires.turn).1
+
+pub returns-in_err-erase_witness-clause-passes : goal.returns-in_err-erase_witness-clause-passes
+returns-in_err-erase_witness-clause-passes g c =
+    let slots = g.F.Flash.SLOTS in
+    let pages = g.F.Flash.PAGES in
+    let m = (g.F.Flash.state c.args.flash.now).words in
+    let mid = (g.F.Flash.state c.erase_witness.new.flash).words in
+    let stays : Stays pages slots m mid =
+    one_stays pages slots m mid c.requires.turn c.erase_witness.ensures.elsewhere in
+    inl (stays.turn ∙ c.requires.turn)
+
+pub returns-in_err-close-clause-passes : goal.returns-in_err-close-clause-passes
+returns-in_err-close-clause-passes g c =
+    let slots = g.F.Flash.SLOTS in
+    let pages = g.F.Flash.PAGES in
+    let m = (g.F.Flash.state c.args.flash.now).words in
+    let mid = (g.F.Flash.state c.erase_witness.new.flash).words in
+    let after = (g.F.Flash.state c.close.new.flash).words in
+    let unmarked : has_closed mid (witness_start slots) ≡ false =
+    filled_open mid (witness_start slots) c.in_ok-erase_witness.ensures.done in
+    let passes : Passes pages slots m after 1 2 =
+    witness_passes pages slots m mid after c.requires.turn c.erase_witness.ensures.elsewhere unmarked
+    c.close.ensures.elsewhere in
+    passes.turn
+
+pub returns-clause-passes : goal.returns-clause-passes
+returns-clause-passes g c = inr (returns-clause-done g c)

@@ -1,16 +1,27 @@
-use Rattle.std.proofs.Common.{◌≡◌, ◌⊎◌, ◌<◌, ◌≤◌, true, false, sym, subst}
+use Rattle.std.proofs.Common.{◌≡◌, ◌⊎◌, ◌<◌, ◌≤◌, ◌∙◌, ℕ, true, false, ap, subst, arith}
 use Rattle.std.proofs.lemmas.Result.{on_ok_weaker}
+use Rattle.flash_log.specs.declared.place.PageMap.{PageMap}
 use Rattle.flash_log.specs.Places.{FindsFree}
-use Rattle.flash_log.specs.Paces.{IsInPace, KeepsPace, LogState, StandsInPace, WillKeepPace, free_slots, is_fresh}
-use Rattle.flash_log.specs.Paces.{is_paced, lead_of}
-use Rattle.flash_log.specs.laws.Pacing.{free_same, fresh_is, is_paced_by, paced_same, stands_view, view_stands}
+use Rattle.flash_log.specs.Paces.{IsInPaceFrom, KeepsPace, LogState, StandsInPace, WillKeepPace, free_slots, is_fresh}
+use Rattle.flash_log.specs.Paces.{extra_of, extra_slots, is_paced, lead_of}
+use Rattle.flash_log.specs.laws.Pacing.{free_same, fresh_is, is_paced_by, paced_is, stands_view, view_stands}
 use Rattle.flash_log.proofs.flash_log.FlashLog.read.Goals as goal
 
 pub returns-clause-paced : goal.returns-clause-paced
-returns-clause-paced g c = λ pace.
+returns-clause-paced g c =
     let pages = g.F.Flash.PAGES in
-    paced_same pages g.F.Flash.SLOTS g.F.Flash.SECTORS c.self.inside.place c.read_at.new.place c.read_at.ensures.known
-    (subst (λ (l : LogState). l.paced ≡ true) (sym c.self.view_is) pace)
+    let slots = g.F.Flash.SLOTS in
+    let sectors = g.F.Flash.SECTORS in
+    let old = c.self.inside.place in
+    let new = c.read_at.new.place in
+    subst (λ (l : LogState). l.paced ≡ true → (is_paced pages slots sectors new ≡ true) × (extra_slots new ≡ l.extra))
+    c.self.view_is
+    (λ pace.
+    let same = c.read_at.ensures.known (paced_is pages slots sectors (extra_slots old) old pace
+    (omega arith)).ready in (
+      ap (is_paced pages slots sectors) same ∙ pace,
+      ap (λ (p : PageMap _). extra_slots p) same,
+    ))
 
 pub returns-clause-free : goal.returns-clause-free
 returns-clause-free g c =
@@ -43,12 +54,12 @@ returns-clause-in_pace g c =
     let slots = g.F.Flash.SLOTS in
     let sectors = g.F.Flash.SECTORS in
     let place = c.read_at.new.place in
-    subst (λ (l : LogState). l.fresh ≡ true → lead_of pages sectors < free_slots slots place
-    → is_paced pages slots sectors place ≡ true)
+    subst (λ (l : LogState). l.ready ≡ false → lead_of pages sectors < free_slots slots place
+    → (is_paced pages slots sectors place ≡ true) × (extra_slots place ≡ 0))
     c.self.view_is
-    (λ fresh far.
-    let is = fresh_is pages slots sectors c.self.inside.place fresh in
-    is_paced_by pages slots sectors place (c.read_at.ensures.paced is.0 far))
+    (λ unready far.
+    let pace = is_paced_by pages slots sectors 0 place (c.read_at.ensures.paced 0 unready far) in
+    let none = pace.1 in (pace.0, omega (arith, none)))
 
 pub returns-clause-finds : goal.returns-clause-finds
 returns-clause-finds g c =
@@ -59,15 +70,18 @@ returns-clause-finds g c =
     let m = (g.F.Flash.state c.self.inside.flash).words in
     let place = c.read_at.new.place in
     on_ok_weaker c.read_at.result
-    (λ (finds : WillKeepPace pages slots sectors start m c.self.inside.place → KeepsPace pages slots sectors place).
-    subst (λ (l : LogState). StandsInPace pages slots sectors start l → is_paced pages slots sectors place ≡ true)
+    (λ (finds : (extra : ℕ) → extra ≤ extra_of pages slots sectors
+    → WillKeepPace pages slots sectors start m extra c.self.inside.place → KeepsPace pages slots sectors extra place).
+    λ extra fits.
+    subst (λ (l : LogState). StandsInPace pages slots sectors start extra l
+    → (is_paced pages slots sectors place ≡ true) × (extra_slots place ≤ extra))
     c.self.view_is
-    (λ stands. is_paced_by pages slots sectors place
-    (finds (stands_view pages slots sectors start m c.self.inside.place stands))))
+    (λ stands. is_paced_by pages slots sectors extra place
+    (finds extra fits (stands_view pages slots sectors extra start m c.self.inside.place stands))))
     c.read_at.ensures.in_pace
 
 pub returns-clause-stands : goal.returns-clause-stands
-returns-clause-stands g c =
+returns-clause-stands g c = λ extra fits.
     let pages = g.F.Flash.PAGES in
     let slots = g.F.Flash.SLOTS in
     let sectors = g.F.Flash.SECTORS in
@@ -75,8 +89,9 @@ returns-clause-stands g c =
     let m = (g.F.Flash.state c.self.inside.flash).words in
     let after = (g.F.Flash.state c.read_at.new.flash).words in
     let place = c.read_at.new.place in
-    subst (λ (l : LogState). StandsInPace pages slots sectors start l → (is_paced pages slots sectors place ≡ true)
-    ⊎ ((is_fresh place ≡ true) × IsInPace pages slots sectors start after))
+    subst (λ (l : LogState). StandsInPace pages slots sectors start extra l
+    → ((is_paced pages slots sectors place ≡ true) × (extra_slots place ≤ extra))
+    ⊎ ((place.ready ≡ false) × IsInPaceFrom pages slots sectors start after extra place.tried))
     c.self.view_is
-    (λ stands. view_stands pages slots sectors start after place
-    (c.read_at.ensures.stands (stands_view pages slots sectors start m c.self.inside.place stands)))
+    (λ stands. view_stands pages slots sectors extra start after place
+    (c.read_at.ensures.stands extra fits (stands_view pages slots sectors extra start m c.self.inside.place stands)))

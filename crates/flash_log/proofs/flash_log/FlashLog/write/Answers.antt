@@ -1,13 +1,14 @@
-use Rattle.std.proofs.Common.{◌≡◌, ◌<◌, ℕ, true, subst}
+use Rattle.std.proofs.Common.{◌≡◌, ◌⊎◌, ◌<◌, ◌≤◌, ◌+◌, ℕ, true, false, subst, arith}
 use Rattle.std.proofs.lemmas.Result.{on_ok_weaker}
-use Rattle.flash_log.specs.Paces.{IsRoomy, KeepsPace, LogState, Pauses, RegainsSlots, StandsInPace, TakesSlot}
-use Rattle.flash_log.specs.Paces.{WillKeepPace, free_slots, is_paced, lead_of}
+use Rattle.flash_log.specs.Paces.{IsBeforeMove, IsInPace, IsInPaceFrom, IsRoomy, KeepsPace, LogState, Pauses}
+use Rattle.flash_log.specs.Paces.{RegainsSlots, StandsInPace, TakesSlot, WillKeepPace}
+use Rattle.flash_log.specs.Paces.{extra_slots, failed_since, free_slots, is_paced, lead_of, lost_since}
 use Rattle.flash_log.specs.Places.{FindsFree, state_of}
-use Rattle.flash_log.specs.laws.Pacing.{paced_is, pauses_view, stands_view, takes_view}
+use Rattle.flash_log.specs.laws.Pacing.{paced_is, pauses_view, stands_view, takes_view, view_stands}
 use Rattle.flash_log.proofs.flash_log.FlashLog.write.Goals as goal
 
 pub returns-clause-pause : goal.returns-clause-pause
-returns-clause-pause g c = λ roomy.
+returns-clause-pause g c = λ extra.
     let slots = g.F.Flash.SLOTS in
     let pages = g.F.Flash.PAGES in
     let sectors = g.F.Flash.SECTORS in
@@ -15,10 +16,12 @@ returns-clause-pause g c = λ roomy.
     let new = g.F.Flash.state c.write_at.new.flash in
     let place = c.write_at.new.place in
     let start = g.F.Flash.sector_start in
-    subst (λ (l : LogState). Pauses 37 l.flash (state_of pages slots new) (StandsInPace pages slots sectors start l)
-    (is_paced pages slots sectors place ≡ true) c.write_at.result) c.self.view_is
-    (pauses_view pages slots sectors start 37 old new c.self.inside.place place c.write_at.result
-    (c.write_at.ensures.pause roomy))
+    subst (λ (l : LogState). IsRoomy pages slots sectors (extra + failed_since l.flash (state_of pages slots new))
+    → Pauses 37 39 1 l.flash (state_of pages slots new) (StandsInPace pages slots sectors start extra l)
+    ((is_paced pages slots sectors place ≡ true)
+    × (extra_slots place ≤ extra + failed_since l.flash (state_of pages slots new))) c.write_at.result) c.self.view_is
+    (λ roomy. pauses_view pages slots sectors extra start 37 39 1 (extra + failed_since old new) old new
+    c.self.inside.place place c.write_at.result (c.write_at.ensures.pause extra roomy))
 
 pub returns-clause-calm : goal.returns-clause-calm
 returns-clause-calm g c =
@@ -31,8 +34,8 @@ returns-clause-calm g c =
     subst (λ (l : LogState). lead_of pages sectors < l.free → new.faults ≡ l.flash.faults
     → TakesSlot l.flash (state_of pages slots new) (l.paced ≡ true) l.free (free_slots slots place) c.write_at.result)
     c.self.view_is
-    (λ far same. takes_view pages slots sectors old new c.self.inside.place place c.write_at.result far
-    (c.write_at.ensures.calm far same))
+    (λ far same. takes_view pages slots sectors (extra_slots c.self.inside.place) old new c.self.inside.place place
+    c.write_at.result far (omega arith) (c.write_at.ensures.calm far same))
 
 pub returns-clause-regains : goal.returns-clause-regains
 returns-clause-regains g c =
@@ -43,11 +46,14 @@ returns-clause-regains g c =
     let new = g.F.Flash.state c.write_at.new.flash in
     let place = c.self.inside.place in
     let after = free_slots slots c.write_at.new.place in
+    let given = extra_slots c.write_at.new.place in
     on_ok_weaker c.write_at.result
-    (λ (regains : IsRoomy pages slots sectors → new.faults ≡ old.faults → KeepsPace pages slots sectors place
-    → RegainsSlots pages slots (free_slots slots place) after). λ roomy.
-    subst (λ (l : LogState). new.faults ≡ l.flash.faults → l.paced ≡ true → RegainsSlots pages slots l.free after)
-    c.self.view_is (λ same pace. regains roomy same (paced_is pages slots sectors place pace)))
+    (λ (regains : (extra : ℕ) → IsRoomy pages slots sectors extra → new.faults ≡ old.faults
+    → KeepsPace pages slots sectors extra place → RegainsSlots pages slots extra (free_slots slots place) after given).
+    λ extra roomy.
+    subst (λ (l : LogState). new.faults ≡ l.flash.faults → l.paced ≡ true → l.extra ≤ extra
+    → RegainsSlots pages slots extra l.free after given)
+    c.self.view_is (λ same pace fits. regains extra roomy same (paced_is pages slots sectors extra place pace fits)))
     c.write_at.ensures.regains
 
 pub returns-clause-regains_found : goal.returns-clause-regains_found
@@ -60,12 +66,50 @@ returns-clause-regains_found g c =
     let new = g.F.Flash.state c.write_at.new.flash in
     let place = c.self.inside.place in
     let after = free_slots slots c.write_at.new.place in
+    let given = extra_slots c.write_at.new.place in
     on_ok_weaker c.write_at.result
-    (λ (regains : IsRoomy pages slots sectors → new.faults ≡ old.faults
-    → WillKeepPace pages slots sectors start old.words place
-    → (n : ℕ) → FindsFree slots old.words n → RegainsSlots pages slots n after). λ roomy.
-    subst (λ (l : LogState). new.faults ≡ l.flash.faults → StandsInPace pages slots sectors start l
-    → (n : ℕ) → FindsFree slots l.raw n → RegainsSlots pages slots n after)
+    (λ (regains : (extra : ℕ) → IsRoomy pages slots sectors extra → new.faults ≡ old.faults
+    → WillKeepPace pages slots sectors start old.words extra place
+    → (n : ℕ) → FindsFree slots old.words n → RegainsSlots pages slots extra n after given). λ extra roomy.
+    subst (λ (l : LogState). new.faults ≡ l.flash.faults → StandsInPace pages slots sectors start extra l
+    → (n : ℕ) → FindsFree slots l.raw n → RegainsSlots pages slots extra n after given)
     c.self.view_is
-    (λ same stands. regains roomy same (stands_view pages slots sectors start old.words place stands)))
+    (λ same stands. regains extra roomy same
+    (stands_view pages slots sectors extra start old.words place stands)))
     c.write_at.ensures.regains_found
+
+pub returns-clause-lost : goal.returns-clause-lost
+returns-clause-lost g c = λ extra roomy.
+    let slots = g.F.Flash.SLOTS in
+    let pages = g.F.Flash.PAGES in
+    let sectors = g.F.Flash.SECTORS in
+    let start = g.F.Flash.sector_start in
+    let old = g.F.Flash.state c.self.inside.flash in
+    let new = g.F.Flash.state c.write_at.new.flash in
+    let place = c.self.inside.place in
+    subst (λ (l : LogState). new.faults ≡ l.flash.faults → StandsInPace pages slots sectors start extra l
+    → (l.flash.erases < new.erases) ⊎ IsBeforeMove pages slots sectors l.free l.fresh l.raw
+    → IsInPace pages slots sectors start new.words extra)
+    c.self.view_is
+    (λ same stands. c.write_at.ensures.lost extra roomy same
+    (stands_view pages slots sectors extra start old.words place stands))
+
+pub returns-clause-stands : goal.returns-clause-stands
+returns-clause-stands g c = λ extra.
+    let slots = g.F.Flash.SLOTS in
+    let pages = g.F.Flash.PAGES in
+    let sectors = g.F.Flash.SECTORS in
+    let start = g.F.Flash.sector_start in
+    let old = g.F.Flash.state c.self.inside.flash in
+    let new = g.F.Flash.state c.write_at.new.flash in
+    let place = c.write_at.new.place in
+    let after = state_of pages slots new in
+    subst (λ (l : LogState). IsRoomy pages slots sectors (extra + failed_since l.flash after)
+    → StandsInPace pages slots sectors start extra l
+    → ((is_paced pages slots sectors place ≡ true) × (extra_slots place ≤ extra + lost_since l.flash after))
+    ⊎ ((place.ready ≡ false)
+    × IsInPaceFrom pages slots sectors start new.words (extra + lost_since l.flash after) place.tried))
+    c.self.view_is
+    (λ roomy stands. view_stands pages slots sectors (extra + lost_since old new) start new.words place
+    (c.write_at.ensures.stands extra roomy
+    (stands_view pages slots sectors extra start old.words c.self.inside.place stands)))

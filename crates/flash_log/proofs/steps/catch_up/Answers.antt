@@ -1,0 +1,136 @@
+use Rattle.std.proofs.Common.{◌≡◌, ◌≤◌, ◌+◌, ◌-◌, ◌∙◌, ℕ, List, true, refl, sym, ap, subst, inr, arith}
+use Rattle.std.proofs.lemmas.Result.{on_ok_weaker}
+use Rattle.flash_log.specs.declared.place.PageMap.{PageMap}
+use Rattle.flash_device.specs.FlashCalls.{FlashState}
+use Rattle.flash_device.specs.FlashLogs.{base_in, turn_of}
+use Rattle.flash_device.specs.PageTables.{AreFree}
+use Rattle.flash_log.specs.Paces.{IsInPace, KeepsPace, lost_since}
+use Rattle.flash_log.specs.Places.{FindsFree}
+use Rattle.flash_log.specs.laws.Losing.{before_found, none_copied, stands_in_pace}
+use Rattle.flash_log.specs.laws.Pacing.{caught_more, free_of, from_more, lost_so, place_in_pace, stands_more}
+use Rattle.flash_log.proofs.steps.catch_up.Goals as goal
+
+pub returns-clause-next : goal.returns-clause-next
+returns-clause-next g c = λ ready.
+    c.copy_older.ensures.next ∙ ap (λ (z : PageMap _). z.next) (c.find_pages.ensures.known ready)
+
+pub returns-clause-unready : goal.returns-clause-unready
+returns-clause-unready g c = c.copy_older.ensures.unready
+
+pub returns-clause-found : goal.returns-clause-found
+returns-clause-found g c =
+    let slots = g.F.Flash.SLOTS in
+    let pages = g.F.Flash.PAGES in
+    let sectors = g.F.Flash.SECTORS in
+    let start = g.F.Flash.sector_start in
+    let entries = g.F.Table.PageTable.entries in
+    let m = (g.F.Flash.state c.args.flash.now).words in
+    let p = c.args.place.now in
+    let q = c.find_pages.new.place in
+    let there = c.in_ok-find_pages.ensures.ready in
+    let same_faults = (c.in_ok-find_pages.ensures.light.ok refl).faults in
+    let last = c.copy_older.new.place in
+    on_ok_weaker c.copy_older.result
+    (λ (ready : last.ready ≡ true). λ unready none. subst (FindsFree slots m)
+    (free_of pages slots sectors q there ∙ ap (λ (n : ℕ). slots - n) (sym c.copy_older.ensures.next)
+    ∙ sym (free_of pages slots sectors last ready))
+    (c.in_ok-find_pages.ensures.found unready none))
+    c.copy_older.ensures.ready
+
+pub returns-clause-free : goal.returns-clause-free
+returns-clause-free g c =
+    let slots = g.F.Flash.SLOTS in
+    let pages = g.F.Flash.PAGES in
+    let sectors = g.F.Flash.SECTORS in
+    let start = g.F.Flash.sector_start in
+    let entries = g.F.Table.PageTable.entries in
+    let m = (g.F.Flash.state c.args.flash.now).words in
+    let p = c.args.place.now in
+    let q = c.find_pages.new.place in
+    let there = c.in_ok-find_pages.ensures.ready in
+    let same_faults = (c.in_ok-find_pages.ensures.light.ok refl).faults in
+    let mid = (g.F.Flash.state c.find_pages.new.flash).words in
+    let known = c.find_pages.ensures.log.known there in
+    let free : AreFree m (base_in slots (turn_of slots m)) q.next slots =
+    subst (λ (l : List ℕ). AreFree l (base_in slots (turn_of slots l)) q.next slots) c.find_pages.ensures.words
+    (subst (λ (t : ℕ). AreFree mid (base_in slots t) q.next slots) known.turn known.free) in
+    on_ok_weaker c.copy_older.result
+    (λ (ready : c.copy_older.new.place.ready ≡ true).
+    subst (λ (n : ℕ). AreFree m (base_in slots (turn_of slots m)) n slots) (sym c.copy_older.ensures.next) free)
+    c.copy_older.ensures.ready
+
+pub returns-in_err-find_pages-clause-stands : goal.returns-in_err-find_pages-clause-stands
+returns-in_err-find_pages-clause-stands g c = λ extra roomy stands.
+    let slots = g.F.Flash.SLOTS in
+    let pages = g.F.Flash.PAGES in
+    let sectors = g.F.Flash.SECTORS in
+    let start = g.F.Flash.sector_start in
+    let q = c.find_pages.new.place in
+    let old = g.F.Flash.state c.args.flash.now in
+    let new = g.F.Flash.state c.find_pages.new.flash in
+    let unready = c.in_err-find_pages.ensures.unready in
+    inr (
+      unready,
+      from_more pages slots sectors start new.words extra (extra + lost_since old new) q.tried (omega arith)
+          (lost_so pages slots sectors start new.words extra q (KeepsPace pages slots sectors extra q) unready
+          (λ (z : KeepsPace pages slots sectors extra q). z.ready)
+          (c.find_pages.ensures.stands extra (omega (arith, roomy)) stands)),
+    )
+
+pub returns-clause-stands : goal.returns-clause-stands
+returns-clause-stands g c = λ extra roomy stands.
+    let slots = g.F.Flash.SLOTS in
+    let pages = g.F.Flash.PAGES in
+    let sectors = g.F.Flash.SECTORS in
+    let start = g.F.Flash.sector_start in
+    let old = g.F.Flash.state c.args.flash.now in
+    let mid = g.F.Flash.state c.find_pages.new.flash in
+    let new = g.F.Flash.state c.copy_older.new.flash in
+    let last = c.copy_older.new.place in
+    let same = (c.in_ok-find_pages.ensures.light.ok refl).faults in
+    let due = (c.in_ok-find_pages.ensures.light.ok refl).due in
+    let fits : extra + lost_since mid new ≤ extra + lost_since old new = omega (arith, same, due) in
+    stands_more pages slots sectors start new.words (extra + lost_since mid new) (extra + lost_since old new) last fits
+    (caught_more pages slots sectors (extra + lost_since mid new) (extra + lost_since old new) last fits)
+    (c.copy_older.ensures.stands extra (omega (arith, roomy, same))
+    (c.in_ok-find_pages.ensures.in_pace extra (omega (arith, roomy)) stands))
+
+pub returns-in_err-find_pages-clause-lost : goal.returns-in_err-find_pages-clause-lost
+returns-in_err-find_pages-clause-lost g c = λ extra roomy stands before.
+    let slots = g.F.Flash.SLOTS in
+    let pages = g.F.Flash.PAGES in
+    let sectors = g.F.Flash.SECTORS in
+    let start = g.F.Flash.sector_start in
+    let entries = g.F.Table.PageTable.entries in
+    let m = (g.F.Flash.state c.args.flash.now).words in
+    let p = c.args.place.now in
+    subst (λ (l : List ℕ). IsInPace pages slots sectors start l extra) (sym c.find_pages.ensures.words)
+    (stands_in_pace pages slots sectors extra entries start m p c.requires.log stands)
+
+pub returns-clause-lost : goal.returns-clause-lost
+returns-clause-lost g c = λ extra roomy stands before.
+    let slots = g.F.Flash.SLOTS in
+    let pages = g.F.Flash.PAGES in
+    let sectors = g.F.Flash.SECTORS in
+    let start = g.F.Flash.sector_start in
+    let entries = g.F.Table.PageTable.entries in
+    let m = (g.F.Flash.state c.args.flash.now).words in
+    let p = c.args.place.now in
+    let q = c.find_pages.new.place in
+    let there = c.in_ok-find_pages.ensures.ready in
+    let same_faults = (c.in_ok-find_pages.ensures.light.ok refl).faults in
+    let mid = (g.F.Flash.state c.find_pages.new.flash).words in
+    let known = c.find_pages.ensures.log.known there in
+    let pace = c.in_ok-find_pages.ensures.in_pace extra (omega (arith, roomy)) stands in
+    let far = before_found pages slots sectors extra m p q there known.free.within
+    (λ ready. ap (λ (z : PageMap _). z.next) (c.find_pages.ensures.known ready)) c.in_ok-find_pages.ensures.found
+    before in
+    let still = (c.copy_older.ensures.idle (none_copied pages slots sectors extra q far pace)).1 in
+    subst (λ (f : FlashState). IsInPace pages slots sectors start f.words extra) (sym still)
+    (place_in_pace pages slots sectors extra entries start mid q known pace)
+
+pub returns-clause-idle : goal.returns-clause-idle
+returns-clause-idle g c = λ ready none.
+    let same = c.find_pages.ensures.known ready in
+    let still = (c.copy_older.ensures.idle (ap (λ (z : PageMap _). z.copied) same ∙ none)).1 in
+    ap (λ (f : FlashState). f.operations) still ∙ c.find_pages.ensures.work
