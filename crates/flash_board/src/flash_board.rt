@@ -1,5 +1,5 @@
 //! The board on a flash.
-ghost use Rattle.std.specs.Prelude.{◌≡◌, ◌+◌, ◌*◌, ◌<◌, ◌≤◌, ◌↔◌, ◌⊎◌, ℕ, if◌then◌else◌, true, false, length};
+ghost use Rattle.std.specs.Prelude.{◌≡◌, ◌+◌, ◌-◌, ◌*◌, ◌<◌, ◌≤◌, ◌↔◌, ◌⊎◌, ℕ, if◌then◌else◌, true, false, length};
 ghost use Rattle.std.specs.Prelude.{All, Contains, IfOk, IsErr, IsTrue, OnErr, OnOk, slice_index};
 ghost use Rattle.nvm_board.specs.declared.board.TheConstants.{SECRETS, COUNT_END};
 ghost use Rattle.nvm_board.specs.Facts.{AreWords, IsMemory};
@@ -37,9 +37,12 @@ impl<F: Flash> FlashBoard<F> {
     ghost use Rattle.nvm_board.specs.Facts.{IsWorn, IsWornOut, raised};
     ghost use Rattle.nvm_board.specs.Facts.{Answered, IsLostRightly};
     ghost use Rattle.flash_device.specs.FlashCalls.{Costs};
+    ghost use Rattle.flash_device.specs.FlashLogs.{base_in, turn_of};
+    ghost use Rattle.flash_device.specs.PageTables.{AreFree};
     ghost use Rattle.flash_board.specs.FlashFacts.{flash_facts, log_state, made_of};
     ghost use Rattle.flash_board.specs.FlashFollowers.{board_is_kept};
-    ghost use Rattle.flash_log.specs.Paces.{IsInPace, IsRoomy, StandsInPace, lead_of};
+    ghost use Rattle.flash_log.specs.Paces.{HasFreeSlots, IsInPace, IsRoomy, RenewsOnly, StandsInPace, failed_since};
+    ghost use Rattle.flash_log.specs.Paces.{lead_of, lost_since};
     ghost use Rattle.flash_log.specs.Renewals.{HoldsOnlyPages};
 
     /// The board of a log that has power. Its counts are 0.
@@ -68,18 +71,39 @@ impl<F: Flash> FlashBoard<F> {
         ensures lit { (flash_facts self).dark ≡ false → result.flash.dark ≡ false }
         ensures kept { result.flash.kept ≡ board_is_kept self }
         ensures raw { result.raw ≡ (log_state self).raw }
+        ensures log { result ≡ log_state self }
         // A fault of the board is one of its flash.
         ensures faults { (flash_facts self).faults ≤ result.flash.faults }
     {
-        self.log
+        let FlashBoard { log, .. } = self;
+        log
     }
 
     /// Proves that a board in pace will be in pace again behind any power-on: the flash holds all that it has to find.
     pub fn stays_in_pace(&self)
-        ensures { StandsInPace F.PAGES F.SLOTS F.SECTORS F.sector_start (log_state self.now)
-            → IsInPace F.PAGES F.SLOTS F.SECTORS F.sector_start (log_state self.now).raw }
+        ensures pace { (extra : ℕ) → StandsInPace F.PAGES F.SLOTS F.SECTORS F.sector_start extra (log_state self.now)
+            → IsInPace F.PAGES F.SLOTS F.SECTORS F.sector_start (log_state self.now).raw extra }
+        // A log that has yet to look for its pages has tried no slot.
+        ensures fresh { (log_state self.now).fresh ≡ true
+            → ((log_state self.now).ready ≡ false) × ((log_state self.now).tried ≡ 0) }
     {
         self.log.stays_in_pace();
+    }
+
+    /// Proves that slots that power losses and Faults took don't count behind the move.
+    pub fn forgets_losses(&self)
+        ensures { (log_state self.now).paced ≡ true → lead_of F.PAGES F.SECTORS < (log_state self.now).free
+            → (log_state self.now).extra ≡ 0 }
+    {
+        self.log.forgets_losses();
+    }
+
+    /// Proves that the free slots that the log knows are blank.
+    pub fn has_free(&self)
+        ensures { 0 < (log_state self.now).free → AreFree (log_state self.now).raw
+            (base_in F.SLOTS (turn_of F.SLOTS (log_state self.now).raw)) (F.SLOTS - (log_state self.now).free) F.SLOTS }
+    {
+        self.log.has_free();
     }
 
     /// Leaves nothing in the flash but the pages as they are: no old words of a page, in no slot. It changes no word of
@@ -98,15 +122,31 @@ impl<F: Flash> FlashBoard<F> {
         ensures light { Answered (flash_facts self.old) (flash_facts self.new) result }
         ensures worn { IsLostRightly (flash_facts self.old) (flash_facts self.new) result }
         ensures only { OnOk result (HoldsOnlyPages F.PAGES F.SLOTS (log_state self.new).raw) }
-        ensures paced { OnOk result (IsRoomy F.PAGES F.SLOTS F.SECTORS
+        ensures paced { OnOk result (IsRoomy F.PAGES F.SLOTS F.SECTORS 0
             → (log_state self.new).flash.faults ≤ (log_state self.old).flash.faults + lead_of F.PAGES F.SECTORS
-            → (log_state self.new).paced ≡ true) }
+            → ((log_state self.new).paced ≡ true) × ((log_state self.new).extra ≡ 0)) }
         // All slots but one for each page, and one for each Fault, are free.
         ensures free { OnOk result (F.SLOTS + (log_state self.old).flash.faults
             ≤ (log_state self.new).free + F.PAGES + (log_state self.new).flash.faults) }
-        ensures work { Costs (2 * F.PAGES + 5 + 2 * F.SECTORS) 2 (log_state self.old).flash (log_state self.new).flash }
+        // With the slots for a move it leaves these, and the flash in pace, at every exit, also if it loses power.
+        ensures lost { F.PAGES + ((log_state self.new).flash.faults - (log_state self.old).flash.faults)
+            + lead_of F.PAGES F.SECTORS ≤ F.SLOTS
+            → HasFreeSlots F.SLOTS (lead_of F.PAGES F.SECTORS) (log_state self.old).raw
+            → HasFreeSlots F.SLOTS (lead_of F.PAGES F.SECTORS) (log_state self.new).raw
+            × IsInPace F.PAGES F.SLOTS F.SECTORS F.sector_start (log_state self.new).raw 0 }
+        // In pace it leaves the flash in pace at every exit, as a write does: it ends a move that is under way first.
+        ensures stands { (extra : ℕ) → IsRoomy F.PAGES F.SLOTS F.SECTORS
+            (extra + failed_since (log_state self.old).flash (log_state self.new).flash)
+            → StandsInPace F.PAGES F.SLOTS F.SECTORS F.sector_start extra (log_state self.old)
+            → StandsInPace F.PAGES F.SLOTS F.SECTORS F.sector_start
+            (extra + lost_since (log_state self.old).flash (log_state self.new).flash) (log_state self.new) }
+        ensures work { Costs (2 * F.PAGES + 7 + 2 * F.SECTORS + 33 * lead_of F.PAGES F.SECTORS) 2
+            (log_state self.old).flash (log_state self.new).flash }
         ensures erases { (log_state self.new).flash.erases
-            ≤ (log_state self.old).flash.erases + 2 * F.SECTORS + 1 }
+            ≤ (log_state self.old).flash.erases + 2 * F.SECTORS + 1 + lead_of F.PAGES F.SECTORS }
+        // With the slots for a move none is under way.
+        ensures calm { HasFreeSlots F.SLOTS (lead_of F.PAGES F.SECTORS) (log_state self.old).raw
+            → RenewsOnly F.PAGES F.SECTORS (log_state self.old).flash (log_state self.new).flash }
     {
         if self.dark {
             return Err(DeviceErr::PowerLost);
@@ -185,7 +225,9 @@ impl<F: Flash> FlashBoard<F> {
 
 impl<F: Flash> Board for FlashBoard<F> {
     ghost use Rattle.flash_board.specs.FlashFacts.{flash_facts, log_state};
-    ghost use Rattle.flash_log.specs.Paces.{IsRoomy, Pauses, RegainsSlots, StandsInPace, TakesSlot, lead_of};
+    ghost use Rattle.flash_device.specs.FlashCalls.{Costs};
+    ghost use Rattle.flash_log.specs.Paces.{CopiesNoPage, IsInPace, IsRoomy, Pauses, RegainsSlots, StandsInPace};
+    ghost use Rattle.flash_log.specs.Paces.{TakesSlot, extra_of, failed_since, lead_of, lost_since};
     ghost use Rattle.flash_log.specs.Places.{FindsFree};
     ghost use Rattle.flash_board.specs.laws.Boards.{flash_is_board};
     ghost use Rattle.nvm_board.specs.BoardCalls.{Compares, FitsPage, TellsWord, Writes};
@@ -201,7 +243,8 @@ impl<F: Flash> Board for FlashBoard<F> {
     fn read(&mut self, at: u16) -> Result<u32, DeviceErr>
         requires { at < length (flash_facts self.old).words }
         ensures word { TellsWord at (flash_facts self.old) (flash_facts self.new) result }
-        ensures paced { (log_state self.old).paced ≡ true → (log_state self.new).paced ≡ true }
+        ensures paced { (log_state self.old).paced ≡ true
+            → ((log_state self.new).paced ≡ true) × ((log_state self.new).extra ≡ (log_state self.old).extra) }
         ensures free { (log_state self.old).free ≤ (log_state self.new).free }
         // After the first read behind a power-on, the log knows all free slots.
         ensures found { OnOk result ((log_state self.old).fresh ≡ true
@@ -210,13 +253,16 @@ impl<F: Flash> Board for FlashBoard<F> {
         ensures looks { (log_state self.old).fresh ≡ true → ((log_state self.new).fresh ≡ true)
             ⊎ FindsFree F.SLOTS (log_state self.old).raw (log_state self.new).free }
         // With more free slots than a move begins at, no move is under way.
-        ensures in_pace { OnOk result ((log_state self.old).fresh ≡ true
-            → lead_of F.PAGES F.SECTORS < (log_state self.new).free → (log_state self.new).paced ≡ true) }
-        // Else it finds how far the move has come, as long as the flash was in pace.
-        ensures finds { OnOk result (StandsInPace F.PAGES F.SLOTS F.SECTORS F.sector_start (log_state self.old)
-            → (log_state self.new).paced ≡ true) }
-        ensures stands { StandsInPace F.PAGES F.SLOTS F.SECTORS F.sector_start (log_state self.old)
-            → StandsInPace F.PAGES F.SLOTS F.SECTORS F.sector_start (log_state self.new) }
+        ensures in_pace { OnOk result ((log_state self.old).ready ≡ false
+            → lead_of F.PAGES F.SECTORS < (log_state self.new).free
+            → ((log_state self.new).paced ≡ true) × ((log_state self.new).extra ≡ 0)) }
+        // Else it finds how far the move has come, as long as the flash was in pace and has the slots for its losses.
+        ensures finds { OnOk result ((extra : ℕ) → extra ≤ extra_of F.PAGES F.SLOTS F.SECTORS
+            → StandsInPace F.PAGES F.SLOTS F.SECTORS F.sector_start extra (log_state self.old)
+            → ((log_state self.new).paced ≡ true) × ((log_state self.new).extra ≤ extra)) }
+        ensures stands { (extra : ℕ) → extra ≤ extra_of F.PAGES F.SLOTS F.SECTORS
+            → StandsInPace F.PAGES F.SLOTS F.SECTORS F.sector_start extra (log_state self.old)
+            → StandsInPace F.PAGES F.SLOTS F.SECTORS F.sector_start extra (log_state self.new) }
         // It programs and erases nothing.
         ensures work { (log_state self.new).flash.operations ≡ (log_state self.old).flash.operations }
         ensures erases { (log_state self.new).flash.erases ≡ (log_state self.old).flash.erases }
@@ -247,29 +293,48 @@ impl<F: Flash> Board for FlashBoard<F> {
     fn write(&mut self, page: u16, first: u8, words: &[u32]) -> Result<(), DeviceErr>
         requires { FitsPage page first words.now (flash_facts self.old) }
         ensures writes { Writes (address page first) words.now (flash_facts self.old) (flash_facts self.new) result }
-        // A write that meets no fault of the flash is short, or its log is in pace behind it.
-        ensures pause { IsRoomy F.PAGES F.SLOTS F.SECTORS
-            → Pauses 37 (log_state self.old).flash (log_state self.new).flash
-            (StandsInPace F.PAGES F.SLOTS F.SECTORS F.sector_start (log_state self.old))
-            ((log_state self.new).paced ≡ true) result }
+        ensures work { Costs (2 * F.PAGES + 40 + F.SECTORS) (2 * F.PAGES + 42 + F.SECTORS) (log_state self.old).flash
+            (log_state self.new).flash }
+        // In pace a write is short, and longer only by what each Fault of the flash costs. Out of pace one without a
+        // Fault is short too, or is in pace behind it.
+        ensures pause { (extra : ℕ) → IsRoomy F.PAGES F.SLOTS F.SECTORS
+            (extra + failed_since (log_state self.old).flash (log_state self.new).flash)
+            → Pauses 37 39 1 (log_state self.old).flash (log_state self.new).flash
+            (StandsInPace F.PAGES F.SLOTS F.SECTORS F.sector_start extra (log_state self.old))
+            (((log_state self.new).paced ≡ true) × ((log_state self.new).extra
+            ≤ extra + failed_since (log_state self.old).flash (log_state self.new).flash)) result }
         // While more free slots are known than a move begins at, and the flash doesn't fail, it takes one of them, and
         // erases nothing.
         ensures calm { lead_of F.PAGES F.SECTORS < (log_state self.old).free
             → (log_state self.new).flash.faults ≡ (log_state self.old).flash.faults
             → TakesSlot (log_state self.old).flash (log_state self.new).flash ((log_state self.old).paced ≡ true)
             (log_state self.old).free (log_state self.new).free result }
-        // A move in pace leaves all slots free but one for each page and each step.
-        ensures regains { OnOk result (IsRoomy F.PAGES F.SLOTS F.SECTORS
+        // A move in pace leaves all slots free but one for each page and each step, and those of power losses.
+        ensures regains { OnOk result ((extra : ℕ) → IsRoomy F.PAGES F.SLOTS F.SECTORS extra
             → (log_state self.new).flash.faults ≡ (log_state self.old).flash.faults
-            → (log_state self.old).paced ≡ true
-            → RegainsSlots F.PAGES F.SLOTS (log_state self.old).free (log_state self.new).free) }
+            → (log_state self.old).paced ≡ true → (log_state self.old).extra ≤ extra
+            → RegainsSlots F.PAGES F.SLOTS extra (log_state self.old).free (log_state self.new).free
+            (log_state self.new).extra) }
         // Behind a power-on too: more than the slots that were free before.
-        ensures regains_found { OnOk result (IsRoomy F.PAGES F.SLOTS F.SECTORS
+        ensures regains_found { OnOk result ((extra : ℕ) → IsRoomy F.PAGES F.SLOTS F.SECTORS extra
             → (log_state self.new).flash.faults ≡ (log_state self.old).flash.faults
-            → StandsInPace F.PAGES F.SLOTS F.SECTORS F.sector_start (log_state self.old)
+            → StandsInPace F.PAGES F.SLOTS F.SECTORS F.sector_start extra (log_state self.old)
             → (n : ℕ) → FindsFree F.SLOTS (log_state self.old).raw n
-            → RegainsSlots F.PAGES F.SLOTS n (log_state self.new).free) }
+            → RegainsSlots F.PAGES F.SLOTS extra n (log_state self.new).free (log_state self.new).extra) }
+        // A write that copies no page leaves the flash in pace at every exit, also if it loses power.
+        ensures lost { (extra : ℕ) → IsRoomy F.PAGES F.SLOTS F.SECTORS extra
+            → (log_state self.new).flash.faults ≡ (log_state self.old).flash.faults
+            → StandsInPace F.PAGES F.SLOTS F.SECTORS F.sector_start extra (log_state self.old)
+            → CopiesNoPage F.PAGES F.SLOTS F.SECTORS (log_state self.old) (log_state self.new)
+            → IsInPace F.PAGES F.SLOTS F.SECTORS F.sector_start (log_state self.new).raw extra }
+        // Every write leaves it so, but a power loss and each Fault may take more slots of the other area.
+        ensures stands { (extra : ℕ) → IsRoomy F.PAGES F.SLOTS F.SECTORS
+            (extra + failed_since (log_state self.old).flash (log_state self.new).flash)
+            → StandsInPace F.PAGES F.SLOTS F.SECTORS F.sector_start extra (log_state self.old)
+            → StandsInPace F.PAGES F.SLOTS F.SECTORS F.sector_start
+            (extra + lost_since (log_state self.old).flash (log_state self.new).flash) (log_state self.new) }
     {
+        self.log.stays_in_pace();
         if self.dark {
             return Err(DeviceErr::PowerLost);
         }
@@ -337,12 +402,16 @@ impl<F: FlashSocket> Socket for FlashBoard<F> {
         ensures log { OnOk result (log_state self.new ≡ record (log_state self.old) {
           flash = record (log_state self.old).flash { dark = false };
           paced = false;
+          extra = 0;
+          ready = false;
+          tried = 0;
           fresh = true;
           free = 0;
         }) }
         // A board in pace stays so.
-        ensures stands { StandsInPace F.PAGES F.SLOTS F.SECTORS F.sector_start (log_state self.old)
-            → StandsInPace F.PAGES F.SLOTS F.SECTORS F.sector_start (log_state self.new) }
+        ensures stands { (extra : ℕ)
+            → StandsInPace F.PAGES F.SLOTS F.SECTORS F.sector_start extra (log_state self.old)
+            → StandsInPace F.PAGES F.SLOTS F.SECTORS F.sector_start extra (log_state self.new) }
     {
         if self.is_worn_out() {
             return Err(WornOut);
@@ -364,7 +433,7 @@ impl<F: FlashSocket> Socket for FlashBoard<F> {
 }
 
 impl<F: CutFlash> FlashBoard<F> {
-    ghost use Rattle.flash_board.specs.FlashFacts.{flash_facts};
+    ghost use Rattle.flash_board.specs.FlashFacts.{flash_facts, log_state};
 
     /// Returns true if power is off.
     pub fn is_dark(&self) -> bool
@@ -383,14 +452,18 @@ impl<F: CutFlash> FlashBoard<F> {
     /// Sets program or erase `k` of the flash from now on, counted from 1, to lose power.
     pub fn set_cut(&mut self, k: u32)
         requires { 1 ≤ k }
-        ensures { flash_facts self.new ≡ record (flash_facts self.old) { due = 1 } }
+        ensures facts { flash_facts self.new ≡ record (flash_facts self.old) { due = 1 } }
+        ensures log { log_state self.new
+            ≡ record (log_state self.old) { flash = record (log_state self.old).flash { due = 1 } } }
     {
         self.log.set_cut(k);
     }
 
     /// Takes back the power loss that is set, if there is one.
     pub fn clear_cut(&mut self)
-        ensures { flash_facts self.new ≡ record (flash_facts self.old) { due = 0 } }
+        ensures facts { flash_facts self.new ≡ record (flash_facts self.old) { due = 0 } }
+        ensures log { log_state self.new
+            ≡ record (log_state self.old) { flash = record (log_state self.old).flash { due = 0 } } }
     {
         self.log.clear_cut();
     }
@@ -398,8 +471,9 @@ impl<F: CutFlash> FlashBoard<F> {
     /// Loses power behind a write, which stays whole.
     pub fn lose_power(&mut self)
         requires { (flash_facts self.old).dark ≡ false }
-        ensures { flash_facts self.new
+        ensures facts { flash_facts self.new
             ≡ record (flash_facts self.old) { dark = true; cuts = (flash_facts self.old).cuts + 1 } }
+        ensures log { log_state self.new ≡ log_state self.old }
     {
         self.go_dark();
     }

@@ -2,6 +2,7 @@ use Rattle.std.proofs.Common.{refl, sym, rules, true≢false, arith}
 use Rattle.nvm_board.specs.Facts.{address, IsLostRightly}
 use Rattle.nvm_board.specs.laws.Torn.{Torn-none}
 use Rattle.flash_board.specs.laws.Boards.{whole_torn}
+use Rattle.flash_log.specs.laws.Ending.{log_stands_more}
 use Rattle.flash_board.proofs.flash_board.FlashBoardBoard.write.Goals as goal
 
 pub returns-then-self-clause-writes : goal.returns-then-self-clause-writes
@@ -107,42 +108,42 @@ returns-else-self-3-clause-writes g c = record {
 }
 
 pub returns-then-self-clause-pause : goal.returns-then-self-clause-pause
-returns-then-self-clause-pause g c = λ roomy. record {
-  short = λ same pace. record { operations = omega arith; erases = omega arith };
-  stays = λ same pace ok. absurd (true≢false (sym ok));
+returns-then-self-clause-pause g c = λ extra roomy. record {
+  short = λ pace. record { work = record { operations = omega arith }; erases = omega arith };
+  stays = λ pace ok. absurd (true≢false (sym ok));
   long = λ same ok. absurd (true≢false (sym ok));
 }
 
 pub returns-then-self-2-clause-pause : goal.returns-then-self-2-clause-pause
-returns-then-self-2-clause-pause g c = λ roomy. record {
-  short = λ same pace. record { operations = omega arith; erases = omega arith };
-  stays = λ same pace ok. absurd (true≢false (sym ok));
+returns-then-self-2-clause-pause g c = λ extra roomy. record {
+  short = λ pace. record { work = record { operations = omega arith }; erases = omega arith };
+  stays = λ pace ok. absurd (true≢false (sym ok));
   long = λ same ok. absurd (true≢false (sym ok));
 }
 
 pub returns-then-self-3-clause-pause : goal.returns-then-self-3-clause-pause
-returns-then-self-3-clause-pause g c = λ roomy. record {
-  short = (c.write-ended.ensures.pause roomy).short;
-  stays = λ same pace ok. absurd (true≢false (sym ok));
+returns-then-self-3-clause-pause g c = λ extra roomy. record {
+  short = (c.write-ended.ensures.pause extra roomy).short;
+  stays = λ pace ok. absurd (true≢false (sym ok));
   long = λ same ok. absurd (true≢false (sym ok));
 }
 
 pub returns-in-Err-PowerLost-clause-pause : goal.returns-in-Err-PowerLost-clause-pause
-returns-in-Err-PowerLost-clause-pause g c = λ roomy. record {
-  short = (c.write-ended.ensures.pause roomy).short;
-  stays = λ same pace ok. absurd (true≢false (sym ok));
+returns-in-Err-PowerLost-clause-pause g c = λ extra roomy. record {
+  short = (c.write-ended.ensures.pause extra roomy).short;
+  stays = λ pace ok. absurd (true≢false (sym ok));
   long = λ same ok. absurd (true≢false (sym ok));
 }
 
 pub returns-else-self-3-clause-pause : goal.returns-else-self-3-clause-pause
-returns-else-self-3-clause-pause g c = λ roomy. record {
-  short = (c.write-ended.ensures.pause roomy).short;
-  stays = λ same pace ok. absurd (true≢false (sym ok));
+returns-else-self-3-clause-pause g c = λ extra roomy. record {
+  short = (c.write-ended.ensures.pause extra roomy).short;
+  stays = λ pace ok. absurd (true≢false (sym ok));
   long = λ same ok. absurd (true≢false (sym ok));
 }
 
 pub returns-in-Ok-clause-pause : goal.returns-in-Ok-clause-pause
-returns-in-Ok-clause-pause g c = λ roomy. c.in-Ok.ensures.pause roomy
+returns-in-Ok-clause-pause g c = λ extra roomy. c.in-Ok.ensures.pause extra roomy
 
 pub returns-then-self-clause-calm : goal.returns-then-self-clause-calm
 returns-then-self-clause-calm g c = λ far same. record {
@@ -189,3 +190,19 @@ returns-else-self-3-clause-calm g c = λ far same.
 
 pub returns-in-Ok-clause-calm : goal.returns-in-Ok-clause-calm
 returns-in-Ok-clause-calm g c = λ far same. c.in-Ok.ensures.calm far same
+
+pub returns-then-self-clause-stands : goal.returns-then-self-clause-stands
+returns-then-self-clause-stands g c = λ extra roomy.
+    log_stands_more g.F.Flash.PAGES g.F.Flash.SLOTS g.F.Flash.SECTORS g.F.Flash.sector_start extra _ c.args.self.now.log
+    (omega arith)
+
+pub returns-then-self-2-clause-stands : goal.returns-then-self-2-clause-stands
+returns-then-self-2-clause-stands g c = λ extra roomy.
+    log_stands_more g.F.Flash.PAGES g.F.Flash.SLOTS g.F.Flash.SECTORS g.F.Flash.sector_start extra _ c.args.self.now.log
+    (omega arith)
+
+pub returns-then-self-clause-work : goal.returns-then-self-clause-work
+returns-then-self-clause-work g c = record { operations = omega arith }
+
+pub returns-then-self-2-clause-work : goal.returns-then-self-2-clause-work
+returns-then-self-2-clause-work g c = record { operations = omega arith }
