@@ -9,6 +9,8 @@ use flash_device::BLANK;
 
 /// The words of a commit mark.
 const MARK: [u32; 2] = [0x436F_6D6D, 0x6974_7321];
+/// The number of words of an area: 20 for each of its slots, and its close mark.
+const AREA_WORDS: usize = 25_602;
 
 /// Puts a run into words.
 pub(crate) fn put_run(words: &mut Vec<u32>, at: usize, run: &[u32])
@@ -45,8 +47,8 @@ pub(crate) fn next_random(random: u64) -> u64
         .wrapping_add(1_442_695_040_888_963_407)
 }
 
-/// Returns a word in place k of a run, which was old and was to be new, in one of eight kinds of garbage.
-fn garbage(random: u64, kind: u64, k: usize, old: u32, new: u32) -> u32 {
+/// Returns a word in a place of an area, which was old and was to be new, in one of eight kinds of garbage.
+fn garbage(random: u64, kind: u64, place: usize, old: u32, new: u32) -> u32 {
     let noise = (random >> 32) as u32;
     match kind {
         0 => noise,
@@ -55,10 +57,10 @@ fn garbage(random: u64, kind: u64, k: usize, old: u32, new: u32) -> u32 {
         3 => old & (new | noise),
         4 if noise % 2 == 0 => old,
         4 => new,
-        5 => MARK[k % 2],
+        5 => MARK[place % 2],
         6 => BLANK,
-        // A run of whole slots, with other words.
-        _ => match k % 20 {
+        // Whole slots, with other words.
+        _ => match place % 20 {
             16 => noise % 1024,
             18 => MARK[0],
             19 => MARK[1],
@@ -80,7 +82,8 @@ fn garble_run(words: &mut Vec<u32>, at: usize, size: usize, run: &[u32], random:
     for k in 0..size {
         random = next_random(random);
         let new = if k < run.len() { run[k] } else { BLANK };
-        words[at + k] = garbage(random, kind, k, words[at + k], new);
+        let place = (at + k) % AREA_WORDS;
+        words[at + k] = garbage(random, kind, place, words[at + k], new);
     }
 }
 
