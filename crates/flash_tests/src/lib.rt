@@ -8,6 +8,8 @@ mod arrays;
 mod many_pages;
 #[cfg(test)]
 mod renewals;
+#[cfg(test)]
+mod sessions;
 mod sim_flash;
 mod sim_spares;
 mod sim_units;

@@ -61,6 +61,13 @@ impl WideFlash {
         self.cut.is_some()
     }
 
+    /// Returns the number of programs and erases that were begun.
+    pub fn operations(&self) -> u64
+        ensures { result ≡ (wide_state self.now).operations }
+    {
+        self.operations
+    }
+
     /// Returns the number of erases that were begun.
     pub fn erases(&self) -> u64
         ensures { result ≡ (wide_state self.now).erases }
