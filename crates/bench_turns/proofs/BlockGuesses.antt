@@ -54,7 +54,8 @@ module _ (c d : Card) (old new : Comparisons) (counts : HasEachCount old) where
         ];
         matches = elim costs.matches [
           | inl same ↦ ap (λ (l : List ℕ). length l) same ∙ counts.matches
-          | inr rise ↦ ap (λ (l : List ℕ). length l) rise ∙ raised-length old.matches shown.0.secret ∙ counts.matches
+          | inr match ↦ ap (λ (l : List ℕ). length l) match.matched ∙ raised-length old.matches shown.0.secret
+              ∙ counts.matches
         ];
       }
 

@@ -87,7 +87,8 @@ module _ (secret : ℕ) (shown : List ℕ) (was now : Pin) (old new : Comparison
       ];
       matches = elim costs.matches [
         | inl same ↦ ap (λ (l : List ℕ). slice_index l other) same
-        | inr rise ↦ ap (λ (l : List ℕ). slice_index l other) rise ∙ raised-beside old.matches secret other differ
+        | inr match ↦ ap (λ (l : List ℕ). slice_index l other) match.matched
+            ∙ raised-beside old.matches secret other differ
       ];
     }
 
@@ -101,12 +102,9 @@ module _ (secret : ℕ) (shown : List ℕ) (was now : Pin) (old new : Comparison
 
     more-matches : slice_index old.matches secret ≤ slice_index new.matches secret
     more-matches =
-        let size = counts.matches in
-        let small : secret < length old.matches = omega (arith, within, size) in
-        let once = raised-once old.matches secret small in
         elim costs.matches [
           | inl same ↦ let is = ap (λ (l : List ℕ). slice_index l secret) same in omega (arith, is)
-          | inr rise ↦ let is = ap (λ (l : List ℕ). slice_index l secret) rise in omega (arith, is, once)
+          | inr match ↦ let once = matched-once match in omega (arith, once)
         ]
 
     -- its tries pay for it: those that are gone, or all of them after one match

@@ -149,6 +149,12 @@ works_else state.Working lit fine = refl
 works_else state.Failed lit fine = absurd (fine refl)
 works_else state.Dark lit fine = absurd (lit refl)
 
+-- a card that isn't dark works, or its memory has failed
+works_or_failed : (s : CardState) → s ≢ state.Dark → (s ≡ Working) ⊎ (s ≡ state.Failed)
+works_or_failed state.Working lit = inl refl
+works_or_failed state.Failed lit = inr refl
+works_or_failed state.Dark lit = absurd (lit refl)
+
 -- a block in which power was lost, which is then turned off
 pub plays_cut : (old new : Powered) (got out : List ℕ) → old.card.state ≡ Working → BlockIsCut old got new out
     → HasCard new.card.facts.words
@@ -271,6 +277,7 @@ plays_replied old new got out lit found replies failed stage stands turned compa
       ahead = ahead;
       one = λ before good. replied old new got out (replies good.well) good.faults;
       any = λ before. record {
+        alive = works_or_failed old.card.state lit;
         works = λ well. ⊎_elim (λ (r : Replies old got new out). inl r)
             (λ (f : BlockFails old got new out). inr (record {
               fails = f;

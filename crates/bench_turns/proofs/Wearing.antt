@@ -72,7 +72,7 @@ wears-shown n c d old new (inr shown) faults writes = record {
   writes = writes;
   secret = shown.0.secret;
   compares = elim shown.2.costs.compares [ inl same ↦ inl same | inr pays ↦ inr pays.compared ];
-  matches = shown.2.costs.matches;
+  matches = elim shown.2.costs.matches [ inl same ↦ inl same | inr match ↦ inr match.matched ];
 }
 
 -- what is far from the end is not nearer

@@ -29,9 +29,11 @@ pub record TurnFails (old : Powered) (got : List ℕ) (new : Powered) (out : Lis
   pub writes : new.card.facts.writes ≤ old.card.facts.writes + COMMAND_WRITES
   pub idle : BlockChangesNothing old (link_step old.link got).reaction → KeepsBoard old.card.facts new.card.facts
 
--- The card replies with this block. A card that works replies as the model does, or the board had a fault in the
--- command. A card whose memory has failed answers each command with 6581, and nothing of it changes.
+-- The card replies with this block: it works, or its memory has failed. A card that works replies as the model does, or
+-- the board had a fault in the command. A card whose memory has failed answers each command with 6581, and nothing of
+-- it changes.
 pub record RepliesOrFails (old : Powered) (got : List ℕ) (new : Powered) (out : List ℕ) : Type 0 where
+  pub alive : (old.card.state ≡ Working) ⊎ (old.card.state ≡ Failed)
   pub works : old.card.state ≡ Working → Replies old got new out ⊎ TurnFails old got new out
   pub failed : old.card.state ≡ Failed → (new.card ≡ old.card) × RepliesFailure old got new out
 

@@ -1,8 +1,12 @@
 //! Laws of turns: each function's contract is one law.
 
-ghost use Rattle.std.specs.Prelude.{◌≤◌, ◌+◌, ◌*◌, ℕ};
+ghost use Rattle.std.specs.Prelude.{◌≡◌, ◌⊎◌, ◌≤◌, ◌+◌, ◌*◌, ℕ, List};
 ghost use Rattle.card_model.specs.declared.pins.TheConstants.{PINS};
-ghost use Rattle.bench_turns.specs.BenchStates.{BenchState, BenchHasCard};
+ghost use Rattle.card_start.specs.declared.state.CardState.TheVariants.{Working, Failed};
+ghost use Rattle.bench_turns.specs.declared.turn.Item.{Item};
+ghost use Rattle.bench_turns.specs.BenchStates.{BenchState, BenchHasCard, on};
+ghost use Rattle.bench_turns.specs.CardBlocks.{Powered};
+ghost use Rattle.bench_turns.specs.FaultTurns.{TakesBlockOrFails};
 ghost use Rattle.bench_turns.specs.Guessing.{GuessesFew, unblocking_guessed, value_guessed};
 
 /// Gives the guess law in numbers.
@@ -23,4 +27,10 @@ pub fn guesses_add_up()
     ensures none { (old : BenchState) → GuessesFew old old }
     ensures on { (old between new : BenchState) → GuessesFew old between → GuessesFew between new
         → GuessesFew old new }
+{}
+
+/// A powered card that takes a block works, or its memory has failed, whatever fails in the turn.
+pub fn a_card_that_takes_a_block_is_alive()
+    ensures alive { (old : Powered) (got : List ℕ) (item : Item) (new : BenchState)
+        → TakesBlockOrFails (on old) got item new → (old.card.state ≡ Working) ⊎ (old.card.state ≡ Failed) }
 {}

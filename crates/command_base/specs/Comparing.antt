@@ -4,7 +4,7 @@ use Rattle.std.specs.Prelude.{◌≡◌, ◌⊎◌, ◌<◌, ◌+◌, ◌-◌, �
 use Rattle.std.specs.Prelude.{Option, Some, None, Result, Ok, Err}
 use Rattle.card_model.specs.declared.status.Sw.{Sw}
 use Rattle.nvm_board.specs.Aims.{WritesRuns}
-use Rattle.nvm_board.specs.Facts.{Facts, RisesAt, raised}
+use Rattle.nvm_board.specs.Facts.{Facts, raised}
 use Rattle.nvm_board.specs.History.{Run, replayed, written}
 use Rattle.card_model.specs.Requests.{Request}
 use Rattle.card_model.specs.declared.pins.TheConstants.{PINS}
@@ -44,14 +44,15 @@ pub record PaysForOne (secret : ℕ) (shown : List ℕ) (was now : Pin) (old new
   pub paid : (tries_left secret now + 1 ≡ tries_left secret was) ⊎ FillsTries secret shown was now old new
 
 -- The cost of presenting a secret, wherever the command stops. Its tries stay, decrease by one, or are reset by a
--- match. At most one comparison is counted, of this secret only, and it is paid for. Without tries nothing is compared.
--- Beyond these tries the PIN changes only after a match. Its unblocking value never changes, and its unblocking tries
--- change by no command that presents the PIN's own value.
+-- match. At most one comparison is counted, of this secret only, and it is paid for. A match is counted only if the
+-- presented value is the stored secret. Without tries nothing is compared. Beyond these tries the PIN changes only
+-- after a match. Its unblocking value never changes, and its unblocking tries change by no command that presents the
+-- PIN's own value.
 pub record CostsATry (secret : ℕ) (shown : List ℕ) (was now : Pin) (old new : Comparisons) : Type 0 where
   pub tries : (tries_left secret now ≡ tries_left secret was) ⊎ (tries_left secret now + 1 ≡ tries_left secret was)
       ⊎ FillsTries secret shown was now old new
   pub compares : (new.compares ≡ old.compares) ⊎ PaysForOne secret shown was now old new
-  pub matches : RisesAt old.matches secret new.matches
+  pub matches : (new.matches ≡ old.matches) ⊎ Matches secret shown was old new
   pub blocked : tries_left secret was ≡ 0 → (now ≡ was) × (new ≡ old)
   pub pin : (now ≡ was) ⊎ (now ≡ charged_pin secret was) ⊎ Matches secret shown was old new
   pub unblocking : now.unblocking ≡ was.unblocking

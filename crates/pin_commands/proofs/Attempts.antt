@@ -419,7 +419,7 @@ module _ (request : Request) (a : Attempt) (asks : IsAttempt request a) (old : M
 
     -- an end, whatever it was
     module _ (e : Memory) (n : ℕ) (ends : IsEnd a.secret (pin_in b a.secret) (a.becomes (pin_in b a.secret)))
-        (costs : WritesAtMost 1 old.facts b.facts) (spends : ComparesOnce n a.secret b.facts e.facts)
+        (costs : WritesAtMost 1 old.facts b.facts) (spends : ComparesOnce n a.secret a.shown b e)
         (pages : ArePinPages (committed e)) (reports : Reports old e) (stays : StaysShut old b)
         (word : EndsByWord a.renews b e) (settles : Settles a a.secret b e)
         (writes : e.facts.writes ≤ old.facts.writes + most_writes request)
@@ -633,7 +633,7 @@ module _ (request : Request) (a : Attempt) (asks : IsAttempt request a) (n : ℕ
         (ready-b : IsReady b) (charge : b.facts.writes ≡ old.facts.writes + 1)
         (ends : (p : Pin) → IsEnd a.secret p (a.becomes p))
         (exit : (committed e ≡ committed b) ⊎ SetsByMatch k a.shown (a.becomes (pin_in b k)) b e)
-        (spends : ComparesOnce n k b.facts e.facts) (pages : ArePinPages (committed e)) (reports : Reports b e)
+        (spends : ComparesOnce n k a.shown b e) (pages : ArePinPages (committed e)) (reports : Reports b e)
         (stays : StaysShut old b) (between : CommitsLast b.facts e.facts) (word : EndsByWord a.renews b e)
         (settles : Settles a k b e) where
       got : (k ≡ a.secret) × Charges a.secret old b × (refused_at a (pin_in old a.secret) ≡ None)
@@ -647,8 +647,8 @@ module _ (request : Request) (a : Attempt) (asks : IsAttempt request a) (n : ℕ
       exit-told =
           subst (λ (k : ℕ). (committed e ≡ committed b) ⊎ SetsByMatch k a.shown (a.becomes (pin_in b k)) b e) got.0 exit
 
-      spends-told : ComparesOnce n a.secret b.facts e.facts
-      spends-told = subst (λ (k : ℕ). ComparesOnce n k b.facts e.facts) got.0 spends
+      spends-told : ComparesOnce n a.secret a.shown b e
+      spends-told = subst (λ (k : ℕ). ComparesOnce n k a.shown b e) got.0 spends
 
       settles-told : Settles a a.secret b e
       settles-told = subst (λ (k : ℕ). Settles a k b e) got.0 settles

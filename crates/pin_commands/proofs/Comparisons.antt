@@ -36,7 +36,7 @@ module _ (secret : ℕ) (shown : List ℕ) (old new : Memory) where
           inr (inr (fills-told fills))
     ];
     compares = ⊎_elim (λ none. inl none) (λ pays. inr (pays-told pays)) law.compares;
-    matches = law.matches;
+    matches = ⊎_elim (λ none. inl none) (λ counted. inr (matches-told counted)) law.matches;
     blocked = blocked;
     pin = elim law.pin [
       | inl stay ↦ inl stay

@@ -3,6 +3,7 @@ use Rattle.std.specs.Prelude.{◌-◌, if◌then◌else◌, Bool, true, false, O
 use Rattle.std.proofs.Common.{◌≡◌, ◌⊎◌, ◌<◌, ◌↔◌, ◌+◌, ℕ, List, refl, sym, ◌∙◌, ap, subst, inl, inr, true≢false, arith}
 use Rattle.std.proofs.Math.Logic.{⊎_map}
 use Rattle.nvm_board.specs.Aims.{AimStays}
+use Rattle.nvm_board.specs.BoardCalls.{CountsMatch}
 use Rattle.nvm_board.specs.Facts.{Facts, RisesAt, raised}
 use Rattle.nvm_board.specs.laws.Aims.{aims_kept, aims_stay, aims_then}
 use Rattle.undo_journal.specs.declared.error.StoreErr.{StoreErr}
@@ -72,30 +73,14 @@ charges_or_not secret left a b c reads told some either =
     ⊎_map (λ stays. stays ∙ reads.keeps.committed_words) (λ sets. charges secret left a b c reads told some sets) either
 
 -- reads, and no comparison
-pub compares_none : (secret : ℕ) (a b : Memory) → OnlyReads a b → ComparesOnce 0 secret a.facts b.facts
-compares_none secret a b reads = record {
+pub compares_none : (secret : ℕ) (shown : List ℕ) (a b : Memory) → OnlyReads a b → ComparesOnce 0 secret shown a b
+compares_none secret shown a b reads = record {
   writes = omega (arith, reads.board.writes);
   more = omega (arith, reads.board.writes);
   cut = aims_kept a.facts b.facts reads.board.words reads.board.cut;
   compares = inl reads.board.compares;
   matches = inl reads.board.matches;
 }
-
--- a comparison after reads
-pub compares_after : (secret named : ℕ) (a b c : Memory) → named ≡ secret → OnlyReads a b
-    → c.facts.words ≡ b.facts.words → c.facts.writes ≡ b.facts.writes → AimStays b.facts c.facts
-    → RisesAt b.facts.compares named c.facts.compares
-    → RisesAt b.facts.matches named c.facts.matches → ComparesOnce 0 secret a.facts c.facts
-compares_after secret named a b c is reads words writes cut compared matched =
-    let family : ℕ → Type 0 = λ s. ComparesOnce 0 s a.facts c.facts in
-    subst family is (record {
-      writes = omega (arith, writes, reads.board.writes);
-      more = omega (arith, writes, reads.board.writes);
-      cut = aims_kept a.facts c.facts (words ∙ reads.board.words)
-          (aims_stay a.facts b.facts c.facts reads.board.cut cut);
-      compares = subst (λ (l : List ℕ). RisesAt l named c.facts.compares) reads.board.compares compared;
-      matches = subst (λ (l : List ℕ). RisesAt l named c.facts.matches) reads.board.matches matched;
-    })
 
 -- what was read is what was shown
 pub is_match : (secret named : ℕ) (shown bytes : List ℕ) (a b c : Memory) → named ≡ secret → OnlyReads a b
@@ -108,6 +93,39 @@ is_match secret named shown bytes a b c is reads read same compared matched =
       compared = compared ∙ ap (λ (l : List ℕ). raised l named) reads.board.compares;
       matched = matched ∙ ap (λ (l : List ℕ). raised l named) reads.board.matches;
     })
+
+-- a match is counted by what was shown, under whichever name
+pub counts_match : (right : Bool) (secret named : ℕ) (shown bytes : List ℕ) (a b c : Memory) → named ≡ secret
+    → OnlyReads a b → bytes ≡ kept named (pin_in a named) → (right ≡ true ↔ (bytes ≡ shown))
+    → c.facts.compares ≡ raised b.facts.compares named
+    → c.facts.matches ≡ (if right then raised b.facts.matches named else b.facts.matches)
+    → (c.facts.matches ≡ b.facts.matches) ⊎ IsMatch secret shown a c
+counts_match true secret named shown bytes a b c is reads read equal compared matched =
+    inr (is_match secret named shown bytes a b c is reads read (equal.0 refl) compared matched)
+counts_match false secret named shown bytes a b c is reads read equal compared matched = inl matched
+
+-- so it is where the comparison stopped
+pub stops_match : (secret named : ℕ) (shown bytes : List ℕ) (a b c : Memory) → named ≡ secret → OnlyReads a b
+    → bytes ≡ kept named (pin_in a named)
+    → (c.facts.matches ≡ b.facts.matches) ⊎ CountsMatch named bytes shown b.facts c.facts
+    → (c.facts.matches ≡ b.facts.matches) ⊎ IsMatch secret shown a c
+stops_match secret named shown bytes a b c is reads read either =
+    ⊎_map (λ same. same)
+    (λ counted. is_match secret named shown bytes a b c is reads read counted.0 counted.1 counted.2) either
+
+-- a comparison after reads
+pub compares_after : (secret named : ℕ) (shown : List ℕ) (a b c : Memory) → named ≡ secret → OnlyReads a b
+    → c.facts.words ≡ b.facts.words → c.facts.writes ≡ b.facts.writes → AimStays b.facts c.facts
+    → RisesAt b.facts.compares named c.facts.compares
+    → (c.facts.matches ≡ b.facts.matches) ⊎ IsMatch secret shown a c → ComparesOnce 0 secret shown a c
+compares_after secret named shown a b c is reads words writes cut compared matched = record {
+  writes = omega (arith, writes, reads.board.writes);
+  more = omega (arith, writes, reads.board.writes);
+  cut = aims_kept a.facts c.facts (words ∙ reads.board.words) (aims_stay a.facts b.facts c.facts reads.board.cut cut);
+  compares = subst (λ (s : ℕ). RisesAt a.facts.compares s c.facts.compares) is
+      (subst (λ (l : List ℕ). RisesAt l named c.facts.compares) reads.board.compares compared);
+  matches = ⊎_map (λ same. same ∙ reads.board.matches) (λ match. match) matched;
+}
 
 -- or it isn't
 pub is_wrong : (secret named left : ℕ) (shown bytes : List ℕ) (a b c : Memory) → named ≡ secret → OnlyReads a b
@@ -125,12 +143,6 @@ is_wrong secret named left shown bytes a b c is reads read differs told compared
       same = same ∙ reads.keeps.committed_words;
     })
 
--- what is counted of a comparison rises, or stays
-pub rises_if : (right : Bool) (secret : ℕ) (old new : List ℕ) → new ≡ (if right then raised old secret else old)
-    → RisesAt old secret new
-rises_if true secret old new counted = inr counted
-rises_if false secret old new counted = inl counted
-
 -- what was read is what was shown, or it isn't
 pub compared_by : (right : Bool) (secret named left : ℕ) (shown bytes : List ℕ) (a b c : Memory)
     → named ≡ secret → OnlyReads a b → bytes ≡ kept named (pin_in a named) → (right ≡ true ↔ (bytes ≡ shown))
@@ -145,20 +157,30 @@ compared_by false secret named left shown bytes a b c is reads read equal told c
     is_wrong secret named left shown bytes a b c is reads read (λ right. true≢false (sym (equal.1 right))) told counted
     matched writes same
 
+-- a match is one for those before the writes that follow it
+pub match_then : (n secret : ℕ) (shown : List ℕ) (a b c : Memory) → IsMatch secret shown a b
+    → WritesAtMost n b.facts c.facts → IsMatch secret shown a c
+match_then n secret shown a b c match rest = record {
+  right = match.right;
+  compared = rest.compares ∙ match.compared;
+  matched = rest.matches ∙ match.matched;
+}
+
 -- writes after a comparison
-pub compares_then : (n secret : ℕ) (a b c : Facts) → ComparesOnce 0 secret a b → WritesAtMost n b c
-    → ComparesOnce n secret a c
-compares_then n secret a b c first rest = record {
+pub compares_then : (n secret : ℕ) (shown : List ℕ) (a b c : Memory) → ComparesOnce 0 secret shown a b
+    → WritesAtMost n b.facts c.facts → ComparesOnce n secret shown a c
+compares_then n secret shown a b c first rest = record {
   writes = omega (arith, first.writes, rest.writes);
   more = omega (arith, first.more, rest.more);
-  cut = aims_then a b c first.cut rest.cut;
+  cut = aims_then a.facts b.facts c.facts first.cut rest.cut;
   compares = ⊎_map (λ stay. rest.compares ∙ stay) (λ rise. rest.compares ∙ rise) first.compares;
-  matches = ⊎_map (λ stay. rest.matches ∙ stay) (λ rise. rest.matches ∙ rise) first.matches;
+  matches = ⊎_map (λ stay. rest.matches ∙ stay) (λ match. match_then n secret shown a b c match rest) first.matches;
 }
 
 -- a comparison without writes is one with at most so many
-pub compares_more : (n secret : ℕ) (a b : Facts) → ComparesOnce 0 secret a b → ComparesOnce n secret a b
-compares_more n secret a b once = record {
+pub compares_more : (n secret : ℕ) (shown : List ℕ) (a b : Memory) → ComparesOnce 0 secret shown a b
+    → ComparesOnce n secret shown a b
+compares_more n secret shown a b once = record {
   writes = omega (arith, once.writes);
   more = once.more;
   cut = once.cut;
@@ -176,11 +198,7 @@ matched_sets n secret named shown change a b c is matched same rest sets =
     (committed c) in
     let by_words : List ℕ → Type 0 = λ m. SetsPin m (owner secret) (change (pin_at m (owner secret))) (committed c) in
     record {
-      match_counted = record {
-        right = matched.right;
-        compared = rest.compares ∙ matched.compared;
-        matched = rest.matches ∙ matched.matched;
-      };
+      match_counted = match_then n secret shown a b c matched rest;
       sets = subst by_words same (subst by_name is sets);
     }
 

@@ -4,7 +4,7 @@ use Rattle.std.specs.Prelude.{◌≡◌, ◌⊎◌, ◌<◌, ◌≤◌, ◌+◌,
 use Rattle.std.specs.Prelude.{Option, Some, None, Result, Ok, Err, IfOk, OnOk}
 use Rattle.std.specs.Result.{result_err}
 use Rattle.nvm_board.specs.Aims.{AimsOn}
-use Rattle.nvm_board.specs.Facts.{Facts, RisesAt, raised}
+use Rattle.nvm_board.specs.Facts.{RisesAt, raised}
 use Rattle.undo_journal.specs.declared.error.StoreErr.{StoreErr}
 use Rattle.undo_journal.specs.StoreCalls.{Changes, Leaves, OnlyReads}
 use Rattle.undo_journal.specs.Commits.{CommitsByGate, CommitsLast, StaysShut, TurnsTo}
@@ -37,19 +37,20 @@ pub record Charges (secret : ℕ) (old new : Memory) : Type 0 where
   pub left : 0 < tries_left secret (pin_in old secret)
   pub charged : SetsPin (committed old) (owner secret) (charged_pin secret (pin_in old secret)) (committed new)
 
--- At most n device writes, which bring a set cut nearer, and at most one comparison, of this secret.
-pub record ComparesOnce (n secret : ℕ) (old new : Facts) : Type 0 where
-  pub writes : new.writes ≤ old.writes + n
-  pub more : old.writes ≤ new.writes
-  pub cut : AimsOn old new
-  pub compares : RisesAt old.compares secret new.compares
-  pub matches : RisesAt old.matches secret new.matches
-
 -- The presented bytes equal the stored ones, and the match is counted.
 pub record IsMatch (secret : ℕ) (shown : List ℕ) (old new : Memory) : Type 0 where
   pub right : kept secret (pin_in old secret) ≡ shown
   pub compared : new.facts.compares ≡ raised old.facts.compares secret
   pub matched : new.facts.matches ≡ raised old.facts.matches secret
+
+-- At most n device writes, which bring a set cut nearer, and at most one comparison, of this secret. A match is counted
+-- only if it is one.
+pub record ComparesOnce (n secret : ℕ) (shown : List ℕ) (old new : Memory) : Type 0 where
+  pub writes : new.facts.writes ≤ old.facts.writes + n
+  pub more : old.facts.writes ≤ new.facts.writes
+  pub cut : AimsOn old.facts new.facts
+  pub compares : RisesAt old.facts.compares secret new.facts.compares
+  pub matches : (new.facts.matches ≡ old.facts.matches) ⊎ IsMatch secret shown old new
 
 -- The match set the PIN.
 pub record SetsByMatch (secret : ℕ) (shown : List ℕ) (now : Pin) (old new : Memory) : Type 0 where
@@ -108,7 +109,7 @@ pub record EndsTrial (gate : Memory → Memory → Type 0) (writes secret : ℕ)
   pub by_gate : gate old new
   pub pages : ArePinPages (committed new)
   pub store : Leaves old new (result_err result)
-  pub spends : ComparesOnce writes secret old.facts new.facts
+  pub spends : ComparesOnce writes secret shown old new
   pub counted : IfOk result (λ outcome. new.facts.writes ≡ old.facts.writes + trial_end_writes writes outcome)
   pub between : CommitsLast old.facts new.facts
 
@@ -125,15 +126,16 @@ pub record PaysForCounted (secret : ℕ) (shown : List ℕ) (old new : Memory) :
       ⊎ FillsByMatch secret shown old new
 
 -- The PIN law, from before the charge to any exit of the charge or of the call that consumes it. The tries of the
--- presented secret are unchanged, one fewer, or all restored after a match. A counted comparison is paid for. Only a
--- match changes the PIN but for these tries. The unblocking value never changes, and the unblocking tries only by a
--- command that presents the unblocking value. No word apart from the PIN changes, and a valid mark stays valid.
+-- presented secret are unchanged, one fewer, or all restored after a match. A counted comparison is paid for, and a
+-- counted match is one. Only a match changes the PIN but for these tries. The unblocking value never changes, and the
+-- unblocking tries only by a command that presents the unblocking value. No word apart from the PIN changes, and a
+-- valid mark stays valid.
 pub record KeepsPinLaw (secret : ℕ) (shown : List ℕ) (old new : Memory) : Type 0 where
   pub tries : (tries_left secret (pin_in new secret) ≡ tries_left secret (pin_in old secret))
       ⊎ (tries_left secret (pin_in new secret) + 1 ≡ tries_left secret (pin_in old secret))
       ⊎ FillsByMatch secret shown old new
   pub compares : (new.facts.compares ≡ old.facts.compares) ⊎ PaysForCounted secret shown old new
-  pub matches : RisesAt old.facts.matches secret new.facts.matches
+  pub matches : (new.facts.matches ≡ old.facts.matches) ⊎ IsMatch secret shown old new
   pub pin : (pin_in new secret ≡ pin_in old secret) ⊎ (pin_in new secret ≡ charged_pin secret (pin_in old secret))
       ⊎ IsMatch secret shown old new
   pub unblocking : (pin_in new secret).unblocking ≡ (pin_in old secret).unblocking

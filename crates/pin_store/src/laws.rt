@@ -58,17 +58,17 @@ pub fn a_comparison_costs_a_try()
     ensures settle { (secret : ℕ) (shown : List ℕ) (a b c : Memory) → secret < PINS → Charges secret a b
         → WritesAtMost 1 a.facts b.facts
         → (committed c ≡ committed b) ⊎ SetsByMatch secret shown (verified_pin (pin_in b secret)) b c
-        → ComparesOnce 1 secret b.facts c.facts → KeepsPinLaw secret shown a c }
+        → ComparesOnce 1 secret shown b c → KeepsPinLaw secret shown a c }
     ensures change { (secret : ℕ) (shown new : List ℕ) (a b c : Memory) → secret < PINS → Charges secret a b
         → WritesAtMost 1 a.facts b.facts
         → (committed c ≡ committed b) ⊎ SetsByMatch secret shown (changed_pin new (pin_in b secret)) b c
-        → ComparesOnce 5 secret b.facts c.facts → KeepsPinLaw secret shown a c }
+        → ComparesOnce 5 secret shown b c → KeepsPinLaw secret shown a c }
     ensures reset { (secret : ℕ) (shown new : List ℕ) (a b c : Memory) → PINS ≤ secret → Charges secret a b
         → WritesAtMost 1 a.facts b.facts
         → (committed c ≡ committed b) ⊎ SetsByMatch secret shown (reset_pin new (pin_in b secret)) b c
-        → ComparesOnce 4 secret b.facts c.facts → KeepsPinLaw secret shown a c }
+        → ComparesOnce 4 secret shown b c → KeepsPinLaw secret shown a c }
     ensures mark { (secret : ℕ) (shown : List ℕ) (enabled : Bool) (a b c : Memory) → secret < PINS → Charges secret a b
         → WritesAtMost 1 a.facts b.facts
         → (committed c ≡ committed b) ⊎ SetsByMatch secret shown (marked_pin enabled (pin_in b secret)) b c
-        → ComparesOnce 5 secret b.facts c.facts → KeepsPinLaw secret shown a c }
+        → ComparesOnce 5 secret shown b c → KeepsPinLaw secret shown a c }
 {}

@@ -127,7 +127,7 @@ fn compare<B: Board>(
     ensures kept { committed store.new ≡ committed store.old }
     ensures store { Leaves store.old store.new (result_err result) }
     ensures shut { StaysShut store.old store.new }
-    ensures spends { ComparesOnce 0 charged store.old.facts store.new.facts }
+    ensures spends { ComparesOnce 0 charged shown.now store.old store.new }
     ensures writes { store.new.facts.writes ≡ store.old.facts.writes }
     ensures between { CommitsLast store.old.facts store.new.facts }
 {

@@ -5,6 +5,7 @@ ghost use Rattle.std.specs.Option.{option_or};
 ghost use Rattle.std.specs.Result.{result_err};
 ghost use Rattle.nvm_board.specs.declared.board.TheConstants.{PAGE_WORDS, SECRETS};
 ghost use Rattle.nvm_board.specs.Aims.{AimStays, HasNoFault};
+ghost use Rattle.nvm_board.specs.BoardCalls.{CountsMatch};
 ghost use Rattle.nvm_board.specs.Facts.{Steady, RisesAt, address, raised, pages_of};
 ghost use Rattle.nvm_board.specs.History.{written};
 ghost use Rattle.nvm_board.specs.Torn.{Torn};
@@ -225,7 +226,8 @@ impl<B: Board> Store<B> {
         ensures compared_err { OnErr result (RisesAt self.old.facts.compares secret self.new.facts.compares) }
         ensures matched { IfOk result (λ e. self.new.facts.matches ≡
             (if e then raised self.old.facts.matches secret else self.old.facts.matches)) }
-        ensures matched_err { OnErr result (RisesAt self.old.facts.matches secret self.new.facts.matches) }
+        ensures matched_err { OnErr result ((self.new.facts.matches ≡ self.old.facts.matches)
+            ⊎ CountsMatch secret kept.now shown.now self.old.facts self.new.facts) }
     {
         self.check()?;
         let answer = self.board.compare(secret, kept, shown);

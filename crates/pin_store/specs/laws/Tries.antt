@@ -84,9 +84,18 @@ pub record IsEnd (secret : ℕ) (pin now : Pin) : Type 0 where
   pub unblocking : now.unblocking ≡ pin.unblocking
   pub unblocking_tries : secret < PINS → now.unblocking_tries ≡ pin.unblocking_tries
 
+-- a match after a charge is one for those before it
+charged_match : (secret : ℕ) (shown : List ℕ) (a b c : Memory) → Charges secret a b → WritesAtMost 1 a.facts b.facts
+    → IsMatch secret shown b c → IsMatch secret shown a c
+charged_match secret shown a b c charged spends match = record {
+  right = sym (ap (kept secret) charged.charged.becomes) ∙ match.right;
+  compared = match.compared ∙ ap (λ (l : List ℕ). raised l secret) spends.compares;
+  matched = match.matched ∙ ap (λ (l : List ℕ). raised l secret) spends.matches;
+}
+
 -- of a charge, and an end that sets nothing
 pub unset_keeps_law : (n secret : ℕ) (shown : List ℕ) (a b c : Memory) → Charges secret a b
-    → WritesAtMost 1 a.facts b.facts → committed c ≡ committed b → ComparesOnce n secret b.facts c.facts
+    → WritesAtMost 1 a.facts b.facts → committed c ≡ committed b → ComparesOnce n secret shown b c
     → KeepsPinLaw secret shown a c
 unset_keeps_law n secret shown a b c charged spends same once =
     let pin = same_pin b c secret same ∙ charged.charged.becomes in
@@ -103,7 +112,7 @@ unset_keeps_law n secret shown a b c charged spends same once =
       ];
       matches = elim once.matches [
         | inl stay ↦ inl (stay ∙ spends.matches)
-        | inr rise ↦ inr (rise ∙ ap (λ (l : List ℕ). raised l secret) spends.matches)
+        | inr match ↦ inr (charged_match secret shown a b c charged spends match)
       ];
       pin = inr (inl pin);
       unblocking = ap (λ (p : Pin). p.unblocking) pin;
@@ -117,14 +126,9 @@ pub set_keeps_law : (secret : ℕ) (shown : List ℕ) (now : Pin) (a b c : Memor
     → WritesAtMost 1 a.facts b.facts → SetsByMatch secret shown now b c → IsEnd secret (pin_in b secret) now
     → KeepsPinLaw secret shown a c
 set_keeps_law secret shown now a b c charged spends set ends =
-    let counted = set.match_counted in
     let before = charged.charged.becomes in
     let after = set.sets.becomes in
-    let matched : IsMatch secret shown a c = record {
-      right = sym (ap (kept secret) before) ∙ counted.right;
-      compared = counted.compared ∙ ap (λ (l : List ℕ). raised l secret) spends.compares;
-      matched = counted.matched ∙ ap (λ (l : List ℕ). raised l secret) spends.matches;
-    } in
+    let matched = charged_match secret shown a b c charged spends set.match_counted in
     let fills : FillsByMatch secret shown a c = record {
       match_counted = matched;
       full = ap (tries_left secret) after ∙ ends.full;
@@ -132,7 +136,7 @@ set_keeps_law secret shown now a b c charged spends set ends =
     record {
       tries = inr (inr fills);
       compares = inr (record { compared = matched.compared; left = charged.left; paid = inr fills });
-      matches = inr matched.matched;
+      matches = inr matched;
       pin = inr (inr matched);
       unblocking = ap (λ (p : Pin). p.unblocking) after ∙ ends.unblocking ∙ ap (λ (p : Pin). p.unblocking) before;
       unblocking_tries = λ small. ap (λ (p : Pin). p.unblocking_tries) after ∙ ends.unblocking_tries small
@@ -144,7 +148,7 @@ set_keeps_law secret shown now a b c charged spends set ends =
 -- of a charge and an end, at whatever exit
 pub end_keeps_law : (n secret : ℕ) (shown : List ℕ) (now : Pin) (a b c : Memory) → IsEnd secret (pin_in b secret) now
     → Charges secret a b → WritesAtMost 1 a.facts b.facts
-    → (committed c ≡ committed b) ⊎ SetsByMatch secret shown now b c → ComparesOnce n secret b.facts c.facts
+    → (committed c ≡ committed b) ⊎ SetsByMatch secret shown now b c → ComparesOnce n secret shown b c
     → KeepsPinLaw secret shown a c
 end_keeps_law n secret shown now a b c ends charged spends (inl same) once =
     unset_keeps_law n secret shown a b c charged spends same once

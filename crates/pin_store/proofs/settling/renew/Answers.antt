@@ -19,7 +19,7 @@ returns-in_err-outcome g c = record {
   );
   pages = pages_stay _ _ c.compare.ensures.kept c.requires.pins.pages;
   store = leaves_handed _ _ _ _ c.from_residual.ensures.1 c.in_err-outcome.ensures.store;
-  spends = compares_more (renewing_writes c.args.renewal) _ _ _ c.compare.ensures.spends;
+  spends = compares_more (renewing_writes c.args.renewal) _ _ _ _ c.compare.ensures.spends;
   counted = none_ok _ _ _ c.from_residual.ensures.1;
   between = c.compare.ensures.between;
 }
@@ -47,7 +47,7 @@ returns-in_err-put_renewed g c = record {
   pages = c.put_renewed.ensures.pages (pages_stay _ _ c.compare.ensures.kept c.requires.pins.pages);
   store = leaves_handed _ _ _ _ c.from_residual-in_err-put_renewed.ensures.1
       (leaves_on _ _ _ _ c.compare.ensures.store.reports (changes_leave _ _ _ _ c.in_err-put_renewed.ensures.store));
-  spends = compares_then (renewing_writes c.args.renewal) _ _ _ _ c.compare.ensures.spends
+  spends = compares_then (renewing_writes c.args.renewal) _ _ _ _ _ c.compare.ensures.spends
       c.put_renewed.ensures.store.writes;
   counted = none_ok _ _ _ c.from_residual-in_err-put_renewed.ensures.1;
   between = compares_between _ _ _ _ c.compare.ensures.store c.compare.ensures.kept c.compare.ensures.between
@@ -84,7 +84,7 @@ returns-in_ok-put_renewed g c = record {
   );
   pages = c.put_renewed.ensures.pages (pages_stay _ _ c.compare.ensures.kept c.requires.pins.pages);
   store = leaves_on _ _ _ _ c.compare.ensures.store.reports (changes_leave _ _ _ _ c.in_ok-put_renewed.ensures.store);
-  spends = compares_then (renewing_writes c.args.renewal) _ _ _ _ c.compare.ensures.spends
+  spends = compares_then (renewing_writes c.args.renewal) _ _ _ _ _ c.compare.ensures.spends
       c.put_renewed.ensures.store.writes;
   counted = match_counts (renewing_writes c.args.renewal) c.in_ok-outcome.outcome _ _ _ c.in-Matched.is
       c.compare.ensures.writes c.in_ok-put_renewed.ensures.counted;
@@ -103,7 +103,7 @@ returns-in_default g c = record {
   );
   pages = pages_stay _ _ c.compare.ensures.kept c.requires.pins.pages;
   store = c.in_ok-outcome.ensures.store;
-  spends = compares_more (renewing_writes c.args.renewal) _ _ _ c.compare.ensures.spends;
+  spends = compares_more (renewing_writes c.args.renewal) _ _ _ _ c.compare.ensures.spends;
   counted =
       wrong_counts (renewing_writes c.args.renewal) c.in_ok-outcome.outcome _ _ c.in_default.not-Matched
       c.compare.ensures.writes;

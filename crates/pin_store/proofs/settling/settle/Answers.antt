@@ -15,7 +15,7 @@ returns-in_err-outcome g c = record {
   by_gate = c.compare.ensures.shut;
   pages = pages_stay _ _ c.compare.ensures.kept c.requires.pins.pages;
   store = leaves_handed _ _ _ _ c.from_residual.ensures.1 c.in_err-outcome.ensures.store;
-  spends = compares_more 1 _ _ _ c.compare.ensures.spends;
+  spends = compares_more 1 _ _ _ _ c.compare.ensures.spends;
   counted = none_ok _ _ _ c.from_residual.ensures.1;
   between = c.compare.ensures.between;
 }
@@ -32,7 +32,7 @@ returns-in_err-put_tries g c = record {
   pages = c.put_tries.ensures.pages (pages_stay _ _ c.compare.ensures.kept c.requires.pins.pages);
   store = leaves_handed _ _ _ _ c.from_residual-in_err-put_tries.ensures.1
       (leaves_on _ _ _ _ c.compare.ensures.store.reports (changes_leave _ _ _ _ c.in_err-put_tries.ensures.store));
-  spends = compares_then 1 _ _ _ _ c.compare.ensures.spends c.put_tries.ensures.store.writes;
+  spends = compares_then 1 _ _ _ _ _ c.compare.ensures.spends c.put_tries.ensures.store.writes;
   counted = none_ok _ _ _ c.from_residual-in_err-put_tries.ensures.1;
   between = compares_between _ _ _ _ c.compare.ensures.store c.compare.ensures.kept c.compare.ensures.between
       c.put_tries.ensures.between;
@@ -56,7 +56,7 @@ returns-in_ok-put_tries g c = record {
   by_gate = λ shut. c.put_tries.ensures.by_gate (c.compare.ensures.shut shut);
   pages = c.put_tries.ensures.pages (pages_stay _ _ c.compare.ensures.kept c.requires.pins.pages);
   store = leaves_on _ _ _ _ c.compare.ensures.store.reports (changes_leave _ _ _ _ c.in_ok-put_tries.ensures.store);
-  spends = compares_then 1 _ _ _ _ c.compare.ensures.spends c.put_tries.ensures.store.writes;
+  spends = compares_then 1 _ _ _ _ _ c.compare.ensures.spends c.put_tries.ensures.store.writes;
   counted = match_counts 1 c.in_ok-outcome.outcome _ _ _ c.in-Matched.is
       c.compare.ensures.writes c.in_ok-put_tries.ensures.counted;
   between = compares_between _ _ _ _ c.compare.ensures.store c.compare.ensures.kept c.compare.ensures.between
@@ -71,7 +71,7 @@ returns-in_default g c = record {
   by_gate = c.compare.ensures.shut;
   pages = pages_stay _ _ c.compare.ensures.kept c.requires.pins.pages;
   store = c.in_ok-outcome.ensures.store;
-  spends = compares_more 1 _ _ _ c.compare.ensures.spends;
+  spends = compares_more 1 _ _ _ _ c.compare.ensures.spends;
   counted = wrong_counts 1 c.in_ok-outcome.outcome _ _ c.in_default.not-Matched c.compare.ensures.writes;
   between = c.compare.ensures.between;
 }

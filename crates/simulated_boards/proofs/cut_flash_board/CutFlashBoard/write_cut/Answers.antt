@@ -18,8 +18,8 @@ returns-then-is_ok-clause-writes g c =
     let a = c.args.self.now.arm in
     let told = subst (λ (f : Facts). Writes at run f new c.write-ended.result) c.set_operation.ensures.same
     c.write-ended.ensures.writes in
-    let last = c.lose_power.ensures
-    ∙ ap (λ (f : Facts). record f { dark = true; cuts = f.cuts + 1 }) c.clear_cut.ensures in
+    let last = c.lose_power.ensures.facts
+    ∙ ap (λ (f : Facts). record f { dark = true; cuts = f.cuts + 1 }) c.clear_cut.ensures.facts in
     subst (λ (f : Facts). Writes {T = Unit {0}} at run (with_arm a old) (with_arm None f) (Err PowerLost))
     (sym last)
     (fallen_behind at run a c.args.mask first.due old new c.write-ended.result refl c.requires.fires c.requires.lit
@@ -35,8 +35,8 @@ returns-else-is_ok-clause-writes g c =
     let a = c.args.self.now.arm in
     let told = subst (λ (f : Facts). Writes at run f new c.write-ended.result) c.set_operation.ensures.same
     c.write-ended.ensures.writes in
-    let fine = sym (ap (λ (f : Facts). f.faults) c.clear_cut.ensures) ∙ c.has_no_fault.ensures in
+    let fine = sym (ap (λ (f : Facts). f.faults) c.clear_cut.ensures.facts) ∙ c.has_no_fault.ensures in
     subst (λ (f : Facts). Writes {T = Unit {0}} at run (with_arm a old) (with_arm None f) (Err PowerLost))
-    (sym c.clear_cut.ensures)
+    (sym c.clear_cut.ensures.facts)
     (fallen_within at run a c.args.mask first.due old new c.write-ended.result refl c.requires.fires c.requires.lit
     (sym c.is_ok.ensures.value ∙ c.if-is_ok.false) fine told)

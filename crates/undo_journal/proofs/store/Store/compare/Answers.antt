@@ -1,5 +1,6 @@
-use Rattle.std.proofs.Common.{◌≡◌, ℕ, List, arith, inl, refl, sym, ap, ◌∙◌, subst}
+use Rattle.std.proofs.Common.{◌≡◌, ◌⊎◌, ℕ, List, arith, inl, refl, sym, ap, ◌∙◌, subst}
 use Rattle.std.specs.Prelude.{if◌then◌else◌, OnErr}
+use Rattle.nvm_board.specs.BoardCalls.{CountsMatch}
 use Rattle.nvm_board.specs.Facts.{RisesAt, raised}
 use Rattle.undo_journal.specs.Batches.{overlay}
 use Rattle.undo_journal.specs.Undo.{gate, undo, data_words, IsSound}
@@ -94,8 +95,9 @@ returns-clause-matched g c = if_ok _ _ c.noted.ensures.answer _ _
 
 pub returns-clause-matched_err : goal.returns-clause-matched_err
 returns-clause-matched_err g c =
-    let after = (g.B.Board.facts c.compare-answer.new.self).matches in
-    subst (λ (m : Memory). OnErr c.noted.result (RisesAt m.facts.matches c.args.secret after)) c.self.view_is
+    let after = g.B.Board.facts c.compare-answer.new.self in
+    subst (λ (m : Memory). OnErr c.noted.result ((after.matches ≡ m.facts.matches)
+    ⊎ CountsMatch c.args.secret c.args.kept.now c.args.shown.now m.facts after)) c.self.view_is
     (on_err _ _ c.noted.ensures.answer _ c.compare-answer.ensures.matched_err)
 
 pub returns-in_err-check-clause-equal : goal.returns-in_err-check-clause-equal
