@@ -2,18 +2,15 @@
 //! With `--card FILE` it runs the script on the card in FILE.
 #![tactic(auto)]
 
-ghost use Rattle.std.specs.Prelude.{◌≡◌, Err, IfErr, IfSome, MatchResult, OnOk, false};
+ghost use Rattle.std.specs.Prelude.{◌≡◌, ◌&&◌, Err, MatchResult, is_some, true};
 ghost use Rattle.bench_lines.specs.Faults.{status_of};
-ghost use Rattle.card_bench.specs.Prints.{LacksNoWrite, desk_of};
-ghost use Rattle.card_bench.specs.ScriptEndings.{IsRunToEnd, RunStopsBy, StopsBehind};
+ghost use Rattle.card_bench.specs.ScriptEndings.{IsCardRun};
 ghost use Rattle.card_files.specs.AskedBoards.{facts_of};
-ghost use Rattle.card_files.specs.declared.kept_file.KeptFile.{KeptFile};
 ghost use Rattle.command_base.specs.Finding.{HasCard};
 ghost use Rattle.simulated_boards.specs.Kept.{kept_words};
-ghost use Rattle.simulated_boards.specs.declared.kept_board.KeptBoard.{KeptBoard};
 
 use bench_lines::RunFault;
-use card_bench::{ScriptBoard, run_on};
+use card_bench::run_card;
 use card_files::{Asked, CardBoard, CardFault, NoBoard, open_board, parse_bench_options};
 use card_turns::Bench;
 use std::env;
@@ -77,39 +74,27 @@ fn run_asked(rt: &HostRuntime) -> Result<Result<(), RunFault>, CardFault> {
         Err(fault) => return Ok(Err(fault)),
     };
     match open_board(rt, asked) {
-        Ok(board) => Ok(run_card(board, &mut reader, &mut io::writer(rt))),
+        Ok(board) => Ok(run_script(board, &mut reader, &mut io::writer(rt))),
         Err(NoBoard::Memory) => Ok(Err(RunFault::Memory)),
         Err(NoBoard::Card(fault)) => Err(fault),
     }
 }
 
-/// Runs a script on the card in a board's memory, as `run_on`.
+/// Runs a script on the card in a board's memory, as `card_bench::run_card`.
 ///
 /// # Errors
-/// Those of `run_on`, and `Memory` before anything is read.
-fn run_card<R: BufRead, W: Write>(
+/// Those of `run_card`: `Memory` only if a file follows the board.
+fn run_script<R: BufRead, W: Write>(
     board: CardBoard,
     reader: &mut R,
     writer: &mut W,
 ) -> Result<(), RunFault>
     requires { HasCard (kept_words board) }
-    ensures done { OnOk result (IfSome (R.remaining reader.old)
-        (λ script. IsRunToEnd (LacksNoWrite (KeptBoard KeptFile) facts_of (λ b. b.follows)) (desk_of (facts_of board))
-        script (W.contents writer.old) (W.contents writer.new))) }
-    ensures stopped { IfErr result (λ fault.
-        RunStopsBy (LacksNoWrite (KeptBoard KeptFile) facts_of (λ b. b.follows)) (desk_of (facts_of board)) fault
-        (R.remaining reader.old) (R.remaining reader.new) (W.contents writer.old) (W.contents writer.new)) }
-    ensures behind { result ≡ Err RunFault.Unkept → (left : KeptBoard KeptFile) × (left.follows ≡ false)
-        × StopsBehind (LacksNoWrite (KeptBoard KeptFile) facts_of (λ b. b.follows)) (desk_of (facts_of board))
-        (facts_of left) (R.remaining reader.old) (R.remaining reader.new) (W.contents writer.old)
-        (W.contents writer.new) }
-    ensures unread { result ≡ Err RunFault.Memory → R.remaining reader.new ≡ R.remaining reader.old }
-    ensures unwritten { result ≡ Err RunFault.Memory → W.contents writer.new ≡ W.contents writer.old }
+    ensures run { IsCardRun facts_of (λ b. b.follows) board result (R.remaining reader.old) (R.remaining reader.new)
+        (W.contents writer.old) (W.contents writer.new) }
+    ensures memory { result ≡ Err RunFault.Memory → (board.follows && is_some board.follower) ≡ true }
 {
-    let Ok(board) = ScriptBoard::new(board) else {
-        return Err(RunFault::Memory);
-    };
-    run_on::<Bench<_>, _, _>(board, reader, writer)
+    run_card::<Bench<_>, _, _>(board, reader, writer)
 }
 
 /// The exit status is 0, or that of the fault of the run.

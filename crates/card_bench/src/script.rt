@@ -107,6 +107,7 @@ where
         (R.remaining reader.old) (R.remaining reader.new) (W.contents writer.old) (W.contents writer.new)) }
     ensures memory { result ≢ Err RunFault.Memory }
     // The board whose follower failed is that of the line without an answer, or that of the line without a charge.
+    // It can't be the second board: that has no log, and the board that runs may have one.
     ensures behind { result ≡ Err RunFault.Unkept → (left : P.Board) × (P.Board.has_kept left ≡ false)
         × StopsBehind (LacksNoWrite P.Board P.Board.facts P.Board.has_kept) (desk_of board)
         (P.Board.facts left) (R.remaining reader.old) (R.remaining reader.new) (W.contents writer.old)

@@ -32,6 +32,7 @@ impl<B: Followed> ScriptBoard<B> {
     /// # Errors
     /// There is too little memory for the second board. The board comes back as it was.
     pub fn new(board: B) -> Result<ScriptBoard<B>, (B, AllocError)>
+        // A copy can't take the board's place: it has no log, and the board may have one.
         ensures facts { IfOk result (λ script_board. script_board ≡ B.facts board) }
         ensures memory { OnErr result (B.has_follower board ≡ true) }
         ensures returned { IfErr result (λ lack. lack.0 ≡ board) }
