@@ -3,16 +3,23 @@
 //! FILE, else in memory with the factory card.
 #![tactic(auto)]
 
-ghost use Rattle.std.specs.Prelude.{◌≡◌, MatchResult};
+ghost use Rattle.std.specs.Prelude.{◌≡◌, ◌≢◌, Err, IfNone, IfSome, MatchResult, map, take};
+ghost use Rattle.std.specs.String.{string_bytes};
+ghost use Rattle.std.specs.Vec.Iter.{into_iter_items, into_iter_len};
 ghost use Rattle.bench_lines.specs.Faults.{status_of};
+ghost use Rattle.card_bench.specs.ScriptEndings.{IsCardRun};
+ghost use Rattle.command_base.specs.Finding.{HasCard};
+ghost use Rattle.flash_board.specs.FlashFollowers.{board_is_kept};
+ghost use Rattle.flash_cli.specs.SeedWords.{GiveNoSeed, GiveSeed};
+ghost use Rattle.simulated_boards.specs.CutFlashFacts.{cut_flash_facts};
 
 use bench_lines::RunFault;
-use card_bench::{ScriptBoard, run_on};
-use card_files::{Asked, FlashCardFault, NoFlash, open_flash, parse_bench_options};
+use card_bench::run_card;
+use card_files::{Asked, CardFlash, FlashCardFault, NoFlash, open_flash, parse_bench_options};
 use card_turns::Bench;
 use simulated_boards::CutFlashBoard;
 use std::env;
-use std::io::{self, BufReader, ErrorKind};
+use std::io::{self, BufRead, BufReader, ErrorKind, Write};
 use std::process::ExitCode;
 use std::vec::IntoIter;
 
@@ -62,10 +69,16 @@ fn seed_asked(rt: &HostRuntime) -> Result<Option<(u64, Asked)>, RunFault> {
 
 /// Returns the number that the first word behind the program's name is, and what the others ask for. Unless they ask
 /// for a card in a file there are no others.
-fn parse_words(words: IntoIter<String>) -> Option<(u64, Asked)> {
+fn parse_words(words: IntoIter<String>) -> Option<(u64, Asked)>
+    ensures seed { IfSome result (λ given.
+        GiveSeed (map string_bytes (take (into_iter_len words) (into_iter_items words))) given.0 given.1) }
+    ensures none { IfNone result
+        (GiveNoSeed (map string_bytes (take (into_iter_len words) (into_iter_items words)))) }
+{
     let mut words = words;
-    let _program = words.next();
-    let seed = words.next()?.parse::<u64>().ok()?;
+    let _program = words.next()?;
+    let text = words.next()?;
+    let seed = text.parse::<u64>().ok()?;
     let is_last = words.len() == 0;
     match parse_bench_options(words) {
         Asked::Factory if !is_last => None,
@@ -87,13 +100,29 @@ fn run_seeded(
     };
     match open_flash(rt, seed, asked) {
         Ok(flash) => {
-            // (no second board runs ahead of a flash, so this asks for no memory)
-            let board = ScriptBoard::new(CutFlashBoard::on(flash)).unwrap();
-            Ok(run_on::<Bench<_>, _, _>(board, &mut reader, &mut io::writer(rt)))
+            let board = CutFlashBoard::on(flash);
+            Ok(run_script(board, &mut reader, &mut io::writer(rt)))
         }
         Err(NoFlash::Memory) => Ok(Err(RunFault::Memory)),
         Err(NoFlash::Card(fault)) => Err(fault),
     }
+}
+
+/// Runs a script on the card on a flash, as `card_bench::run_card`.
+///
+/// # Errors
+/// Those of `run_card` but `Memory`: no second board runs ahead of a flash.
+fn run_script<R: BufRead, W: Write>(
+    board: CutFlashBoard<CardFlash>,
+    reader: &mut R,
+    writer: &mut W,
+) -> Result<(), RunFault>
+    requires { HasCard (cut_flash_facts board).words }
+    ensures run { IsCardRun cut_flash_facts (λ b. board_is_kept b.board) board result (R.remaining reader.old)
+        (R.remaining reader.new) (W.contents writer.old) (W.contents writer.new) }
+    ensures memory { result ≢ Err RunFault.Memory }
+{
+    run_card::<Bench<_>, _, _>(board, reader, writer)
 }
 
 /// The exit status is 0, or that of the fault of the run.

@@ -1,0 +1,2 @@
+-- The command line of the bench on a flash.
+pub mod SeedWords
