@@ -1,4 +1,5 @@
-"""The device writes of whole sessions, and what they wear of a flash and of a memory without one."""
+"""The device writes of whole sessions, and what they wear of a flash and of a memory without one. The page has the
+erases of a sector as worked out of the writes, at most, and as counted on a flash."""
 from __future__ import annotations
 
 import json
@@ -14,18 +15,24 @@ from typing import NamedTuple
 from ..card_image.flash import PAGES, SLOTS
 from ..card_image.image import read_image
 from ..card_image.tree import read
+from .flash_moves import ROUNDS, Rounds, rounds_of
 from .wear import GATE, PROBE, Uncut
 
 TOP = Path(__file__).resolve().parents[3]
 CARDS, PAGE = TOP / "examples" / "cards", TOP / "docs" / "FLASH.md"
-# The writes that an area takes behind a move to it, at least, if no power is lost: a move copies each page, a write may
-# go to both areas in its 64 steps with copies, and at most two slots are left. Two moves erase each sector once.
-ROOM = SLOTS - PAGES - 64 - 2
+# The writes that an area takes behind a move to it, at least, if no power is lost: a move copies each page, a page
+# more between two of its 64 steps with copies, and at most two slots are left. Two moves erase each sector once.
+STEPS = 64
+ROOM = SLOTS - PAGES - STEPS - 2
 MILLION = 1_000_000
 HEAD = """\
-| session | erases of a sector | gate without flash |
+| session | sector erases, at most; counted | gate without flash |
 |---|---|---|"""
-ROW = re.compile(r"\| (UICC|identity card|purse) \| [\d,]+ \| [\d,]+ \|")
+ROW = re.compile(r"\| (UICC|identity card|purse) \| [\d,]+; [\d,]+ \| [\d,]+ \|")
+# The most records that a write may take on a flash that has half of its pages in use; those of the table's first
+# session, which is the longest one.
+MOST_RECORDS = 3
+RECORDS = re.compile(r"\| records for each write.*\|")
 
 
 class Session(NamedTuple):
@@ -57,18 +64,32 @@ SESSIONS = (
 )
 
 
+class Programs(NamedTuple):
+    """The bench, the program that sweeps, and the bench on a flash."""
+
+    bench: str
+    sweeper: str
+    flash: str
+
+
 class FlashWear(NamedTuple):
-    """A session: its commands, its device writes, and those of the gate."""
+    """A session: its commands, its device writes, and those of the gate; and rounds of it on a flash."""
 
     name: str
     commands: int
     writes: int
     gate: int
+    rounds: Rounds
 
     @property
     def erases(self) -> int:
         """How often each sector is erased in a million commands, at most."""
         return round(MILLION * self.writes / self.commands / (2 * ROOM))
+
+    @property
+    def counted_erases(self) -> int:
+        """How often a sector was erased, for a million commands."""
+        return round(MILLION * self.writes / self.commands * max(self.rounds.erases) / self.rounds.writes)
 
     @property
     def gate_writes(self) -> int:
@@ -77,7 +98,26 @@ class FlashWear(NamedTuple):
 
     def row(self) -> str:
         """The row of docs/FLASH.md."""
-        return f"| {self.name} | {self.erases:,} | {self.gate_writes:,} |"
+        return f"| {self.name} | {self.erases:,}; {self.counted_erases:,} | {self.gate_writes:,} |"
+
+    def records_row(self) -> str:
+        """The row of docs/FLASH.md on the records of a write. With half of the pages in use a move copies half of
+        them, and as many again as it was counted to."""
+        return f"| records for each write; half of the pages in use | {self.rounds.amplification:.1f}; " \
+            f"{self.half_full:.1f} |"
+
+    @property
+    def half_full(self) -> float:
+        """The records of a write where half of the pages are in use."""
+        return SLOTS / (SLOTS - PAGES / 2 - self.rounds.again)
+
+    def fault(self) -> str | None:
+        """What doesn't fit what was worked out, if anything."""
+        if {*self.rounds.erases} != {ROUNDS}:
+            return f"{ROUNDS} rounds erased the sectors {sorted({*self.rounds.erases})} times"
+        if self.counted_erases > self.erases or self.rounds.again > STEPS:
+            return f"{self.counted_erases:,} erases, or {self.rounds.again:.0f} pages copied again in a move: too many"
+        return None
 
 
 def issued(bench: str, card: str, folder: Path) -> Path:
@@ -121,26 +161,38 @@ def kinds(sweeper: str, made: Path, head: list[str], line: str) -> list[str]:
     return [str(it["kind"]) for it in map(json.loads, ran.stdout.splitlines()) if "kind" in it]
 
 
-def counted(bench: str, sweeper: str, session: Session, folder: Path) -> FlashWear:
-    """The device writes of each command of a session, in its place."""
+def counted(programs: Programs, session: Session, folder: Path) -> FlashWear:
+    """The device writes of each command of a session, in its place, and what rounds of it wear."""
+    bench, sweeper, flash = programs
     made = issued(bench, session.card, folder)
     lines = lines_of(session, made)
     check_answers(bench, made, lines, session.name)
     found = [it for at, line in enumerate(lines) for it in kinds(sweeper, made, lines[:at], line)]
-    return FlashWear(session.name, len(lines), len(found), sum(it in GATE for it in found))
+    gate = sum(it in GATE for it in found)
+    return FlashWear(session.name, len(lines), len(found), gate, rounds_of(flash, made, lines, len(found)))
 
 
-def flash_wears(bench: str, sweeper: str, jobs: int) -> list[FlashWear]:
+def flash_wears(programs: Programs, jobs: int) -> list[FlashWear]:
     """What each session wears."""
     with TemporaryDirectory() as folder, ThreadPoolExecutor(jobs) as pool:
-        return list(pool.map(lambda it: counted(bench, sweeper, it, Path(folder)), SESSIONS))
+        return list(pool.map(lambda it: counted(programs, it, Path(folder)), SESSIONS))
 
 
 def flash_faults(text: str, found: list[FlashWear]) -> Iterator[tuple[str, str | None]]:
-    """Each row of the page's table, and what is wrong with it, if anything."""
+    """Each row of the page's table, and what is wrong with it, if anything; and what is wrong with what was counted."""
     told = {row[1]: row[0] for line in text.splitlines() if (row := ROW.fullmatch(line))}
     for it in found:
         shown = told.pop(it.name, None)
         yield it.name, None if shown == it.row() else f"{shown or 'no row'} on the page, and {it.row()} is counted"
+        yield f"{it.name}, on a flash", it.fault()
+    yield "records", records_fault(text, found[0])
     for name in told:
         yield name, "there is no such session"
+
+
+def records_fault(text: str, found: FlashWear) -> str | None:
+    """What is wrong with the page's row on records, if anything."""
+    if found.half_full > MOST_RECORDS:
+        return f"a write takes {found.half_full:.1f} records, and {MOST_RECORDS} at most are allowed"
+    row, shown = found.records_row(), RECORDS.search(text)
+    return None if shown and shown[0] == row else f"{shown[0] if shown else 'no row'} on the page, and {row} is counted"

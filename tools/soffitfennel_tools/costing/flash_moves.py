@@ -1,0 +1,87 @@
+"""What sessions wear of a flash in a file: the sectors that are erased, and the records that writes and moves take.
+
+A card has all pages of its flash, as its chain of free blocks is in them. So a move copies them all, and each of the
+1,280 slots of an area that isn't a copy takes a write. The flash is read between pieces of a session, each shorter than
+the erases of a move: no slot is erased and filled again in one.
+"""
+from __future__ import annotations
+
+import subprocess
+from collections.abc import Iterator
+from pathlib import Path
+from typing import NamedTuple
+
+from ..card_image.flash import AREAS, MARK_WORDS, PAGES, SLOT_WORDS, SLOTS, WITNESS, Flash, flash_of, laid_out
+from ..card_image.image import read_image
+from .wear import Uncut
+
+# the sectors of an area on the bench, and the words of one; the witness is a sector
+SECTORS, SECTOR_WORDS = 51, 502
+BLOCKS = [(at + SECTOR_WORDS * it, SECTOR_WORDS) for at in AREAS for it in range(SECTORS)] + [(WITNESS, MARK_WORDS)]
+PLACES = [at + SLOT_WORDS * it for at in AREAS for it in range(SLOTS)]
+# a piece has fewer writes than a move has erases; the seed of the garbage, of which there is none
+MOST_WRITES, SEED = SECTORS - 1, "7"
+# The rounds of the log that are counted: in each, two moves erase each sector once. The first one is not counted, as
+# the other area of a new flash is blank.
+ROUNDS = 3
+
+
+class Rounds(NamedTuple):
+    """What was counted over some rounds: the writes of the card, the records that they and the moves took, and how
+    often each sector was erased."""
+
+    writes: int
+    records: int
+    erases: tuple[int, ...]
+
+    @property
+    def amplification(self) -> float:
+        """The records written for each write."""
+        return self.records / self.writes
+
+    @property
+    def again(self) -> float:
+        """The pages that a move copied again."""
+        return (self.records - self.writes) / (2 * ROUNDS) - PAGES
+
+
+def erased(before: Flash, after: Flash) -> Iterator[bool]:
+    """Whether each sector was erased: a program clears bits, and sets none."""
+    for at, size in BLOCKS:
+        old, new = before.words[at:at + size], after.words[at:at + size]
+        yield old != new and any(it & ~was for was, it in zip(old, new))
+
+
+def taken(before: Flash, after: Flash) -> int:
+    """The slots that were filled."""
+    filled = (it for it in PLACES if before.words[it:it + SLOT_WORDS] != after.words[it:it + SLOT_WORDS])
+    return sum(not after.is_blank(it, SLOT_WORDS) for it in filled)
+
+
+def pieces(program: str, image: Path, script: str) -> Iterator[Flash]:
+    """The flash behind a script, again and again."""
+    while True:
+        words = [program, SEED, "--card", str(image)]
+        ran = subprocess.run(words, input=script, capture_output=True, text=True, check=False)
+        if ran.returncode:
+            raise Uncut(f"the program ended with status {ran.returncode}: {ran.stderr.strip()}")
+        # (without a lock, which a child of another thread would hold for a moment)
+        yield flash_of(image.read_bytes())
+
+
+def rounds_of(program: str, made: Path, lines: list[str], writes: int) -> Rounds:
+    """Counts a session of a card, of so many writes, from the end of a round to that of another one."""
+    image, times = made.with_suffix(".flash"), MOST_WRITES // writes
+    image.write_bytes(laid_out(read_image(str(made))[0].words))
+    before, ended, count, records = flash_of(image.read_bytes()), 0, 0, 0
+    erases = [0] * len(BLOCKS)
+    for after in pieces(program, image, "".join(f"{it}\n" for it in ["on", *lines] * times)):
+        if 0 < ended <= ROUNDS:
+            count += times * writes
+            records += taken(before, after)
+            erases = [was + it for was, it in zip(erases, erased(before, after))]
+        ended += before.turn == 2 and after.turn == 0
+        before = after
+        if ended > ROUNDS:
+            break
+    return Rounds(count, records, tuple(erases))
