@@ -2,6 +2,7 @@
 from __future__ import annotations
 
 import re
+from collections.abc import Callable
 from dataclasses import dataclass
 from pathlib import Path
 
@@ -12,10 +13,10 @@ LEAST_PAGES, MOST_PAGES, STEP_PAGES = 1024, 4096, 16
 # docs/FLASH.md: an area takes each page once, with slots to pass over, and a slot has a number of 16 bits
 SPARE_SLOTS = 256
 LEAST_SLOTS, MOST_SLOTS = LEAST_PAGES + SPARE_SLOTS, 65_535
-# an area has fewer than 32,768 sectors, whatever its slots
 LEAST_WORDS, MOST_WORDS, USUAL_WORDS = 64, 1 << 24, 1 << 16
-# words of a slot, where the flash programs single words
-SLOT_WORDS = 20
+MOST_SECTORS = 32_767
+# words of a slot and of a close mark, where the flash programs single words, and of each where it programs units
+SLOT_WORDS, MARK_WORDS, FRAME_WORDS = 20, 2, 32
 CRATE, HEADER = "crates/device_flash/src/slots.rt", "device/card_device.h"
 
 
@@ -81,13 +82,34 @@ def why_unfit(pages: int, slots: int) -> str | None:
     return None
 
 
+def sectors_of(slots: int, sector_words: int, unit: int | None = None, spares: int | None = None) -> int:
+    """The sectors of an area. Program units and spare sectors let a sector have whole slots."""
+    if unit:
+        return -(-(slots + 1) // (sector_words // FRAME_WORDS))
+    words = sector_words // SLOT_WORDS * SLOT_WORDS if spares else sector_words
+    return -(-(SLOT_WORDS * slots + MARK_WORDS) // words)
+
+
+def why_too_many(sectors: int) -> str | None:
+    """Why an area can't have so many sectors, if so."""
+    return f"{sectors:,} sectors of an area are more than {MOST_SECTORS:,}" if sectors > MOST_SECTORS else None
+
+
+def least_in_pace(pages: int, slots: int, sectors: Callable[[int], int]) -> int:
+    """The least number of slots, these or more, with which a move keeps each write short (docs/FLASH.md, "The pause").
+    An area of so many slots has so many sectors."""
+    while (least := sectors(slots) + pages + pages // 8 + 1) > slots:
+        slots = least
+    return slots
+
+
 def why_spares_unfit(slots: int, sector_words: int, spares: int) -> str | None:
     """Why a flash can't have so many spare sectors of this size, if so. Sectors have numbers of 16 bits. The words
     and those of the map behind them are numbers of the header, which have 31."""
     each = sector_words // SLOT_WORDS
     if each > MOST_SLOTS:
         return f"with spare sectors a sector has at most {MOST_SLOTS * SLOT_WORDS + SLOT_WORDS - 1:,} words"
-    sectors = 2 * -(-(SLOT_WORDS * slots + 2) // (SLOT_WORDS * each)) + 1 + spares
+    sectors = 2 * sectors_of(slots, sector_words, spares=spares) + 1 + spares
     if sectors >= 1 << 16 or sectors * sector_words + SLOT_WORDS * spares >= 1 << 31:
         return f"{spares:,} spare sectors of {sector_words:,} words are too many: addresses have 31 bits, numbers 16"
     return None
