@@ -31,7 +31,9 @@ class Area:
     is_closed: bool
     used: int
     live: int
+    copied: int
     old: int
+    blank: int
 
     @property
     def free(self) -> int:
@@ -41,7 +43,7 @@ class Area:
     @property
     def garbage(self) -> int:
         """The slots that were passed over: a program failed, or lost power."""
-        return self.used - self.live - self.old
+        return self.used - self.live - self.copied - self.old - self.blank
 
 
 @dataclass(frozen=True)
@@ -49,6 +51,10 @@ class Flash:
     """The words of a flash, in their order."""
 
     words: tuple[int, ...]
+
+    def data(self) -> bytes:
+        """The bytes of a file that has it."""
+        return struct.pack(f">{len(self.words)}I", *self.words)
 
     def is_blank(self, at: int, size: int) -> bool:
         """Whether so many words are blank."""
@@ -84,18 +90,32 @@ class Flash:
         found = ((at, self.page_in(at)) for at in slots)
         return [(at, page) for at, page in found if page is not None]
 
+    def copied(self, area: int) -> int:
+        """The pages that a move has copied to this area: in an open one that isn't home, those that read as at home."""
+        if area == self.home or self.is_closed(area):
+            return 0
+        last = {page: self.words[at:at + layout.PAGE_WORDS] for at, page in self.held(area)}
+        return sum(it == self.page(page) for page, it in last.items())
+
     def area(self, number: int) -> Area:
-        """What an area holds. In the one that isn't home all pages are old."""
-        at = AREAS[number]
-        filled = (it for it in range(SLOTS, 0, -1) if not self.is_blank(at + SLOT_WORDS * (it - 1), SLOT_WORDS))
-        held = self.held(number)
-        live = len({page for _, page in held}) if number == self.home else 0
-        return Area(NAMES[number], self.is_closed(number), next(filled, 0), live, len(held) - live)
+        """What an area holds. In the one that isn't home, pages are copied or old, and a move erases it from its front:
+        slots before others are blank then."""
+        at, is_home = AREAS[number], number == self.home
+        filled = [it for it in range(SLOTS) if not self.is_blank(at + SLOT_WORDS * it, SLOT_WORDS)]
+        used = filled[-1] + 1 if filled else 0
+        held, copied = self.held(number), self.copied(number)
+        live = len({page for _, page in held}) if is_home else 0
+        old, blank = len(held) - live - copied, 0 if is_home else used - len(filled)
+        return Area(NAMES[number], self.is_closed(number), used, live, copied, old, blank)
 
     @cached_property
     def areas(self) -> tuple[Area, ...]:
         """Both areas."""
         return tuple(map(self.area, range(len(AREAS))))
+
+    def page(self, number: int) -> tuple[int, ...]:
+        """The words of a page."""
+        return self.pages[layout.PAGE_WORDS * number:layout.PAGE_WORDS * (number + 1)]
 
     @cached_property
     def pages(self) -> tuple[int, ...]:

@@ -42,7 +42,9 @@ def flash_lines(flash: Flash) -> Iterator[str]:
     yield f"flash    {len(flash.areas)} areas of {SLOTS:,} slots, turn {flash.turn}: the pages are in area" \
         f" {flash.areas[flash.home].name}"
     for area in flash.areas:
-        pages = f"{counted(area.live, 'live page')}, {area.old:,} old, {area.garbage:,} garbage"
+        copied = f", {area.copied:,} copied" if area.copied else ""
+        blank = f", {area.blank:,} blank" if area.blank else ""
+        pages = f"{counted(area.live, 'live page')}{copied}, {area.old:,} old, {area.garbage:,} garbage{blank}"
         yield f"area {area.name}   {closed(area.is_closed)}: {area.used:,} slots used ({pages}), {area.free:,} free"
     yield f"witness  {closed(flash.is_closed(len(flash.areas)))}"
 

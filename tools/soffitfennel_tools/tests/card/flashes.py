@@ -13,6 +13,8 @@ from .showing import FACTORY, card
 
 PAGE_WORDS = 16
 CLOSED = (0x12345678, BLANK)
+# of the bench's flash
+SECTOR_WORDS = 502
 # where area B begins
 SECOND = AREA_WORDS
 
@@ -68,6 +70,28 @@ def third(memory: list[int]) -> list[int]:
     return flash
 
 
+def erased(memory: list[int]) -> list[int]:
+    """A move to area A, ten sectors of which are erased. They had 251 slots."""
+    flash = blank()
+    fill(flash, 0, [0] * len(memory), list(range(PAGES)))
+    put(flash, 0, [BLANK] * (10 * SECTOR_WORDS))
+    put(flash, SLOT_WORDS * SLOTS, MARK)
+    fill(flash, SECOND, memory, list(range(PAGES)))
+    put(flash, SECOND + SLOT_WORDS * SLOTS, MARK)
+    return flash
+
+
+def copied(memory: list[int]) -> list[int]:
+    """A move to area A with two steps of 16 copied pages, and before them an older copy and a torn record."""
+    flash = blank()
+    fill(flash, 0, [1] * len(memory), [3])
+    put(flash, SLOT_WORDS, [0xABCDEF01] * 5)
+    fill(flash, 2 * SLOT_WORDS, memory, list(range(32)))
+    fill(flash, SECOND, memory, list(range(PAGES)))
+    put(flash, SECOND + SLOT_WORDS * SLOTS, MARK)
+    return flash
+
+
 def data(flash: list[int]) -> bytes:
     """The bytes of its file."""
     return struct.pack(f">{WORDS}I", *flash)
@@ -87,14 +111,23 @@ SHOWN = (
         HEAD.format(2, "B"), "area A   open: 1,280 slots used (0 live pages, 0 old, 1,280 garbage), 0 free",
         "area B   closed: 1,024 slots used (1,024 live pages, 0 old, 0 garbage), 256 free", "witness  open",
     ]),
+    (erased, [
+        HEAD.format(2, "B"),
+        "area A   closed: 1,024 slots used (0 live pages, 773 old, 0 garbage, 251 blank), 256 free",
+        "area B   closed: 1,024 slots used (1,024 live pages, 0 old, 0 garbage), 256 free", "witness  open",
+    ]),
+    (copied, [
+        HEAD.format(2, "B"), "area A   open: 34 slots used (0 live pages, 32 copied, 1 old, 1 garbage), 1,246 free",
+        "area B   closed: 1,024 slots used (1,024 live pages, 0 old, 0 garbage), 256 free", "witness  open",
+    ]),
 )
 
 
 def of_pages(checks: Checks, image: Path) -> None:
-    """The card of a flash in each turn is that of its pages."""
+    """The card of a flash in each turn, and in a move, is that of its pages."""
     for build, lines in SHOWN:
         image.write_bytes(data(build(factory())))
-        checks.compare(f"a flash, {build.__name__} turn", (0, [*lines, *FACTORY], ""), card(image))
+        checks.compare(f"a flash, {build.__name__}", (0, [*lines, *FACTORY], ""), card(image))
     memory = image.with_name("memory.image")
     memory.write_bytes(data_of(factory()))
     checks.compare("no difference to the card of a memory", (0, [], ""), card("--diff", image, memory))

@@ -16,6 +16,10 @@ TRACED = "openat,write,pwrite64,pwritev,fsync,fdatasync,rename,renameat,renameat
 CALL = re.compile(r"(\w+)\((.*)\) += (-?\d+)")
 OPENED = re.compile(r'AT_FDCWD, "(.*)", (.*)')
 CREATE = "apdu 00E00000186216820241218302{}8800800203E88A01058C03030000"
+# seconds that a call is delayed for the test to come in between: where that was too late, longer, up to the last one
+DELAYS = (2, 8, 32)
+# seconds until the call is under way, at most
+PATIENCE = 120
 # what the test does to each byte of the file: some device writes, one of them of several words
 SCRIPT = ["on", WRONG_PIN, CREATE.format("6F11"), "apdu 00D600000401020304", "apdu 00D6000078" + "A5" * 120]
 
@@ -88,23 +92,41 @@ def of_a_new_card(checks: Checks, bench: Bench) -> None:
     checks.compare("the card made without links", True, bench.image.read_bytes() == data_of(factory()))
 
 
-def of_two_makers(checks: Checks, bench: Bench) -> None:
-    """Another program makes the file while the bench makes it: that file stays, and the bench leaves none."""
+def made_beside(bench: Bench, other: bytes, seconds: int) -> tuple[bool, tuple[int, bytes, bytes]]:
+    """Makes the file while the bench, which has made its own, waits so long before it gives that one the name: whether
+    that was in time, and how the bench ends."""
     bench.image.unlink(missing_ok=True)
-    folder, other = bench.image.parent, data_of(changed({1040: 1}))
+    folder, pipe = bench.image.parent, subprocess.PIPE
     before = set(folder.iterdir())
-    delayed, pipe = "inject=link,linkat,rename,renameat,renameat2:delay_enter=2000000", subprocess.PIPE
+    delayed = f"inject=link,linkat,rename,renameat,renameat2:delay_enter={seconds * 1_000_000}"
     words = ["strace", "-qq", "-o", "/dev/null", "-e", delayed, *bench.words()]
     process = subprocess.Popen(words, stdin=pipe, stdout=pipe, stderr=pipe)
-    for _ in range(12_000):
+    end = time.monotonic() + PATIENCE
+    while time.monotonic() < end:
         if any(it.stat().st_size == len(other) for it in set(folder.iterdir()) - before):
             break
         time.sleep(0.005)
-    time.sleep(0.1)
-    bench.image.write_bytes(other)
+    try:
+        with open(bench.image, "xb") as file:
+            file.write(other)
+        is_in_time = True
+    except FileExistsError:
+        is_in_time = False
     printed, told = process.communicate(b"on\n")
+    return is_in_time, (process.returncode, printed, told)
+
+
+def of_two_makers(checks: Checks, bench: Bench) -> None:
+    """Another program makes the file while the bench makes it: that file stays, and the bench leaves none."""
+    folder, other = bench.image.parent, data_of(changed({1040: 1}))
+    bench.image.unlink(missing_ok=True)
+    before = set(folder.iterdir())
+    for seconds in DELAYS:
+        is_in_time, came = made_beside(bench, other, seconds)
+        if is_in_time:
+            break
     wanted = (NO_CARD, b"", b"error card: the file is in use by another program\n")
-    checks.compare("two that make one card", wanted, (process.returncode, printed, told))
+    checks.compare("two that make one card", wanted, came)
     checks.compare("two that make one card: the first one's stays", True, bench.image.read_bytes() == other)
     checks.compare("two that make one card: what is left", {bench.image}, set(folder.iterdir()) - before)
 
@@ -175,25 +197,33 @@ def of_looks(checks: Checks, bench: Bench) -> None:
         checks.compare(f"looks at the file before answer {number}", each * (len(names) // len(each)), names)
 
 
-def of_a_removal(checks: Checks, bench: Bench) -> None:
-    """A file that is removed while a write is under way: no answer, and status 7."""
-    before = data_of(factory())
+def removed(bench: Bench, seconds: int) -> tuple[int, str, str]:
+    """Removes the file while the bench, which has made a write of VERIFY, waits so long before it goes on: how it
+    ends."""
+    before, pipe = data_of(factory()), subprocess.PIPE
     bench.image.write_bytes(before)
-    words = ["strace", "-qq", "-o", "/dev/null", "-e", "inject=pwrite64:delay_exit=2000000", *bench.words()]
-    pipe = subprocess.PIPE
+    delayed = f"inject=pwrite64:delay_exit={seconds * 1_000_000}"
+    words = ["strace", "-qq", "-o", "/dev/null", "-e", delayed, *bench.words()]
     process = subprocess.Popen(words, stdin=pipe, stdout=pipe, stderr=pipe)
     assert process.stdin
     process.stdin.write(f"on\n{WRONG_PIN}\n".encode())
     process.stdin.flush()
-    for _ in range(12_000):
-        if bench.image.read_bytes() != before:
-            break
+    end = time.monotonic() + PATIENCE
+    while bench.image.read_bytes() == before and time.monotonic() < end:
         time.sleep(0.005)
     bench.image.unlink()
     printed, told = process.communicate()
-    wanted = (UNKEPT, f"{ATR}\n", UNKEPT_WORDS)
-    came = (process.returncode, printed.decode(), told.decode())
-    checks.compare("a file that is removed within a write", wanted, came)
+    return process.returncode, printed.decode(), told.decode()
+
+
+def of_a_removal(checks: Checks, bench: Bench) -> None:
+    """A file that is removed while a write is under way: no answer, and status 7."""
+    for seconds in DELAYS:
+        came = removed(bench, seconds)
+        # (an answer says that the file was there until then)
+        if came[1] == f"{ATR}\n":
+            break
+    checks.compare("a file that is removed within a write", (UNKEPT, f"{ATR}\n", UNKEPT_WORDS), came)
 
 
 def of_failing_writes(checks: Checks, bench: Bench) -> None:
