@@ -3,9 +3,9 @@
 Each run is a bench script, and a process of its own."""
 from __future__ import annotations
 
+import argparse
 import itertools
 import os
-import struct
 import time
 from bisect import bisect_left
 from collections import Counter
@@ -22,7 +22,7 @@ from .engine import Part, Refused, ran, with_depth
 from .outcomes import Found
 from .script import SweepScript
 from ..card_image import layout
-from ..card_image.flash import WORDS
+from ..card_image.flash import IMAGE_BYTES
 from ..card_image.image import Image, Unreadable, image_of_flash, read_image
 from ..script_lines import ORDERS_THAT_PRINT
 
@@ -219,6 +219,13 @@ def kind_of(before: bytes, after: bytes) -> str:
     return "words" if old.gate else "alone" if len(changed) == 1 else "fill"
 
 
+def seed(text: str) -> int:
+    """A number of 64 bits."""
+    if not (text.isascii() and text.isdigit() and int(text) <= MOST_SEED):
+        raise argparse.ArgumentTypeError(f"a number from 0 to {MOST_SEED}")
+    return int(text)
+
+
 def image_in(path: str) -> bytes:
     """The words on a flash in a file that no other program uses."""
     try:
@@ -229,7 +236,13 @@ def image_in(path: str) -> bytes:
         raise Refused(f"{path} is in use by another program")
     if found.flash is None:
         raise Refused(f"{path} has the memory of a card, and no flash: sweep it without --flash")
-    return struct.pack(f">{WORDS}I", *found.flash.words)
+    return found.flash.data()
+
+
+def refuse_flash(path: str) -> None:
+    """Refuses a flash in a file where the memory of a card belongs. They differ in their size."""
+    if os.path.isfile(path) and os.path.getsize(path) == IMAGE_BYTES:
+        raise Refused(f"{path} has the size of a flash: sweep it with --flash SEED")
 
 
 @contextmanager

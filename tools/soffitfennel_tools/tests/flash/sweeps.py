@@ -14,13 +14,14 @@ from collections.abc import Callable, Sequence
 from pathlib import Path
 from typing import Any
 
-from ...card_image.image import read_image
 from ...programs import program
 from ...sweeping.engine import Refused
 from ...sweeping.flash import FlashBench, FlashSweep, Turn
 from ...sweeping.script import SweepScript
 from ..card.bench import ATR
 from ..checks import Checks
+from . import moves
+from .moves import CREATE, SELECT, UPDATE
 
 TOP = Path(__file__).resolve().parents[4]
 EXAMPLES = TOP / "examples" / "sweep"
@@ -28,14 +29,12 @@ ONE_WORD = EXAMPLES / "one_word.script"
 # with a sweep in working memory they have the same writes and outcomes
 COMPARED = ("one_word", "change_pin", "delete_directory", "update_binary", "update_record")
 BEFORE, AFTER = "as before the command", "as after the command"
-CREATE = "apdu 00E000001962178202412183026F018801088002000A8A01058C03030000"
-SELECT, UPDATE, READ = "apdu 00A4000C026F01", "apdu 00D600000401020304", "apdu 00B000000A"
+READ = "apdu 00B000000A"
 NEW = "< 01020304FFFFFFFFFFFF9000"
 # whether a pair counts behind a torn mark of the gate: then the next power-on has a first write
 PAIR_COUNTS = ("on", CREATE, "cut 2 0002", UPDATE, "cut 1 0001", "on")
-# so many updates, of four writes each, leave at most the free slots from which on a write takes a step of a move
-# (docs/FLASH.md, Layout); behind more of them, without a power-on, all 51 sectors are erased and 48 pages copied
-UPDATES, UPDATES_TO_COPIES, STEPS_FROM = 33, 46, 51 + 64 + 1
+# behind so many updates in one session all 51 sectors are erased, and 48 pages are copied: up to write 194 (moves.py)
+UPDATES_TO_COPIES = 46
 SEEDS, FIRST_SEED = 7, 38
 # seconds until a sweep has begun, at most
 PATIENCE = 60
@@ -140,19 +139,18 @@ def check_seeds(room: Room) -> None:
 
 
 def check_move(room: Room) -> None:
-    """Each write takes a step of a move: the erase of a sector, then a record and a mark. The image stays."""
+    """Each write takes a step of a move, behind a power-on too: the erase of a sector, then a record and a mark. That
+    is four cuts for each of four writes. Behind eight of them a pair counts, and a power-on writes the word and the
+    gate: eight cuts each, 8 + 8 * 8 runs in all. The image stays."""
     image = room.folder / "image"
-    room.prints(3, "on", CREATE, *[UPDATE.replace("01020304", "FFFFFFFF")] * UPDATES, image=image)
-    flash = read_image(str(image))[0].flash
-    assert flash is not None
-    room.tests.check(flash.areas[flash.home].free <= STEPS_FROM, "few slots are free")
+    room.prints(3, *moves.session(moves.TO_ERASES_OF_A), image=image)
     script, before = room.folder / "selected.script", image.read_bytes()
     script.write_text("\n".join(["on", SELECT, "# command", UPDATE, "# probe", SELECT, READ]))
     for depth, runs in enumerate(((15, 1), (71, 1))):
         came = room.runs("--flash", "0", "--card", image, "--depth", str(depth), script)
         room.tests.same(came, dict(zip((BEFORE, AFTER), runs)), f"the runs in a move, {depth} deep")
     writes = room.found("--flash", "7", "--card", image, "--depth", "0", script)["writes"]
-    room.tests.same([it["operations"] for it in writes], [3] * 4, "an erase, a record and a mark")
+    room.tests.same([it["operations"] for it in writes], [moves.ERASES] * 4, "an erase, a record and a mark")
     script.write_text("\n".join(["on", SELECT, UPDATE]))
     _, shown, _ = room.sweep("--flash", "7", "--all", "--depth", "0", "--card", image, script, "--only", "3")
     room.tests.same(shown.split()[8:15], ["3", "UPDATE", "BINARY", "9000", "4", "16", "2"], "--all --card")
@@ -160,14 +158,14 @@ def check_move(room: Room) -> None:
 
 
 def check_copies(room: Room) -> None:
-    """Each write copies 16 pages: a record and a mark for each, and for its own page. The gate is page 73, which is
-    copied by then, so it is written to both areas."""
+    """Each write copies 16 pages: a record and a mark for each, and for its own page. The second one, write 196, copies
+    page 73 and writes it, the gate. So the third first copies it again."""
     script = room.folder / "copies.script"
-    updates = [UPDATE.replace("01020304", "FFFFFFFF")] * UPDATES_TO_COPIES
-    script.write_text("\n".join(["on", CREATE, *updates, "# command", UPDATE, "# probe", SELECT, READ]))
+    lines = [*moves.session(UPDATES_TO_COPIES), "# command", UPDATE, "# probe", SELECT, READ]
+    script.write_text("\n".join(lines))
     came = room.found("--flash", "0", "--depth", "0", script)
-    room.tests.same([it["operations"] for it in came["writes"]], [34, 36, 34, 36], "operations that copy")
-    room.tests.same([it["runs"] for it in came["outcomes"]], [143, 1], "the runs of a move that copies")
+    room.tests.same([it["operations"] for it in came["writes"]], [34, 34, 36, 34], "operations that copy")
+    room.tests.same([it["runs"] for it in came["outcomes"]], [141, 1], "the runs of a move that copies")
 
 
 def check_all(room: Room) -> None:
@@ -271,6 +269,10 @@ def check_refusals(room: Room) -> None:
     image.write_bytes(bytes(64 * 1024))
     fault = f"sweep: {image} has the memory of a card, and no flash: sweep it without --flash\n"
     room.tests.same(room.sweep("--flash", "0", "--card", image, ONE_WORD), (2, "", fault), "a memory image")
+    deep = room.folder / "deep.script"
+    deep.write_text(f"on\n# depth 4\n# command\n{UPDATE}\n# probe\n{READ}\n")
+    fault = "sweep: error line 2: a depth is 0, 1, 2 or 3\n"
+    room.tests.same(room.sweep("--flash", "0", deep), (2, "", fault), "a depth of 4")
     image.write_bytes(bytes(204_824 - 8) + b"\xff" * 8)
     fault = "sweep: error card: no card is found on the flash: the words of its pages break a rule\n"
     room.tests.same(room.sweep("--flash", "0", "--card", image, ONE_WORD), (2, "", fault), "a flash without a card")
