@@ -5,19 +5,21 @@ import os
 import select
 import subprocess
 import time
+from collections.abc import Sequence
 from concurrent.futures import ThreadPoolExecutor
 from pathlib import Path
 
 from ...chips.targets import TARGETS
 from ...porting.writing import EXAMPLE
 from .building import WARNINGS, Failed, Room, lacks, run
-from .playing import board
+from .playing import QUIET
 
 CHIP = TARGETS["riscv32"]
 MEMORY = "16M"
 # where the words of the device lie in the board's memory, and one of them that is changed
 WORDS_AT, CHANGED = 0x200000, 5000 * 4
-PATIENCE = 60.0
+# seconds that a program may take, on a machine that other programs use too
+PATIENCE = 300.0
 LOST = "if (!has_power)\n        return DEVICE_LOST;\n    "
 STORE, PUT = "for (size_t i = 0; i < (size_t)count", "words[(size_t)page * PAGE_WORDS"
 BIT = "device_compare: a difference of one bit is one"
@@ -77,16 +79,20 @@ def compare(room: Room) -> None:
             room.checks.check(is_named, f"a device is broken: {new or 'no ' + old}", text)
 
 
-def printed(port: str, patience: float = PATIENCE) -> str:
-    """What the program prints on a board, up to its last line."""
-    text, end = b"", time.monotonic() + patience
-    file = os.open(port, os.O_RDONLY | os.O_NOCTTY)
-    try:
-        while not text.endswith(b"failed\r\n") and not text.endswith(b"failed\n") and time.monotonic() < end:
-            if select.select([file], [], [], 1)[0]:
-                text += os.read(file, 4096)
-    finally:
-        os.close(file)
+def printed(emulator: Sequence[str]) -> str:
+    """What the program prints on an emulated board, up to its last line. The board's port is the emulator's standard
+    output: a pseudo-terminal loses what is printed before it has a reader."""
+    text, end, pipe = b"", time.monotonic() + PATIENCE, subprocess.PIPE
+    with subprocess.Popen([*emulator, *QUIET, "-serial", "stdio"], stdin=pipe, stdout=pipe) as process:
+        assert process.stdout
+        try:
+            while not text.endswith((b"failed\r\n", b"failed\n")) and time.monotonic() < end:
+                if select.select([process.stdout], [], [], 1)[0]:
+                    if not (part := os.read(process.stdout.fileno(), 4096)):
+                        break
+                    text += part
+        finally:
+            process.kill()
     return text.decode("ascii", "replace").replace("\r", "")
 
 
@@ -104,8 +110,7 @@ def compare_reset(room: Room) -> None:
             with memory.open("r+b") as file:
                 file.seek(WORDS_AT + CHANGED)
                 file.write(b"\0\0\0\0")
-        with board(CHIP, out / "duties.elf", *kept(memory)) as port:
-            text = printed(port)
+        text = printed([*CHIP.emulator, *kept(memory), "-kernel", str(out / "duties.elf")])
         is_so = wanted in text and (what == "a lost word" or text.endswith(" 0 failed\n"))
         room.checks.check(is_so and ("no run before" in text) == (what == "the first run"), f"duties: {what}", text)
 

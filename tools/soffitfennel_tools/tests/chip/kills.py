@@ -9,7 +9,7 @@ from pathlib import Path
 from ...chips.targets import TARGETS
 from .building import Room, lacks
 from .duties import kept
-from .playing import Script, board, serial
+from .playing import QUIET, Script, board, serial
 
 CHIP = TARGETS["riscv32"]
 # PIN 1 allows the updates, and a wrong value of PIN 2 costs a try
@@ -38,8 +38,7 @@ def looked_at(program: Path, memory: Path) -> tuple[int, int]:
 
 def updated_until_kill(program: Path, memory: Path, number: int, seconds: float) -> tuple[int, int]:
     """Updates until the emulator is killed: the last number that was answered, and the tries behind a wrong value."""
-    quiet = ["-display", "none", "-monitor", "none", "-nic", "none", "-serial", "pty"]
-    words = [*CHIP.emulator, *quiet, *kept(memory), "-kernel", str(program)]
+    words = [*CHIP.emulator, *QUIET, "-serial", "pty", *kept(memory), "-kernel", str(program)]
     with subprocess.Popen(words, stdout=subprocess.PIPE, text=True) as process:
         assert process.stdout
         script = Script(serial.Port(process.stdout.readline().split()[4]))

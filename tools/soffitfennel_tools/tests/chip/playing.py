@@ -15,6 +15,7 @@ from ...commands import command
 
 CUT, SUM = 5, 6
 DARK = 2
+QUIET = ("-display", "none", "-monitor", "none", "-nic", "none")
 serial: Any = command("serial")
 
 
@@ -137,8 +138,7 @@ def started(target: Target, program: Path, *words: str) -> Iterator[Port]:
 @contextmanager
 def board(target: Target, program: Path, *words: str) -> Iterator[str]:
     """A board of qemu with a program, and the path of its serial port."""
-    quiet = ["-display", "none", "-monitor", "none", "-nic", "none", "-serial", "pty"]
-    command = [*target.emulator, *quiet, *words, "-kernel", str(program)]
+    command = [*target.emulator, *QUIET, "-serial", "pty", *words, "-kernel", str(program)]
     with subprocess.Popen(command, stdout=subprocess.PIPE, stderr=subprocess.STDOUT, text=True) as process:
         try:
             assert process.stdout

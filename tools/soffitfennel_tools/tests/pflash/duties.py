@@ -10,12 +10,9 @@ from ...porting.over_flash import FLASH_EXAMPLE, fill
 from ...porting.writing import EXAMPLE, write_port
 from ..chip.building import WARNINGS, Failed, lacks
 from ..chip.duties import CHANGED, WORDS_AT, kept, printed
-from ..chip.playing import board
 from .building import CHECKED, CHIP, DRIVER, Room, by_host, made
-from .emulating import emulator, new_flash, port_of
+from .emulating import emulator_of, new_flash
 
-# (an emulated program of a word takes a twentieth of a millisecond, and more on a busy machine)
-PATIENCE = 300.0
 SOURCES = [FLASH_EXAMPLE / "duties.c", EXAMPLE / "board_host.c"]
 CLEARED = "words[at + i] &= from[i];"
 ERASED = "words[i] = (uint32_t)BLANK;"
@@ -105,8 +102,7 @@ def compare_reset(room: Room, out: Path) -> None:
             with memory.open("r+b") as file:
                 file.seek(WORDS_AT + CHANGED)
                 file.write(b"\0\0\0\0")
-        with board(CHIP, program, *kept(memory)) as port:
-            text = printed(port)
+        text = printed([*CHIP.emulator, *kept(memory), "-kernel", str(program)])
         is_so = wanted in text and text.endswith(" 0 failed\n") == (what != "a lost word")
         room.checks.check(is_so and ("no run before" in text) == (what == "the first run"), f"duties: {what}", text)
 
@@ -114,11 +110,7 @@ def compare_reset(room: Room, out: Path) -> None:
 def compare_driver(room: Room, out: Path) -> None:
     """The driver keeps its duties on the flash of qemu."""
     program = made(room, CHIP.name, out, DRIVER, "duties")
-    with emulator(program, new_flash(room.folder / "duties.flash")) as process:
-        try:
-            text = printed(port_of(process), PATIENCE)
-        finally:
-            process.kill()
+    text = printed(emulator_of(program, new_flash(room.folder / "duties.flash")))
     room.checks.check(text.endswith(" passed, 0 failed\n"), "the driver keeps its duties on qemu's flash", text)
 
 

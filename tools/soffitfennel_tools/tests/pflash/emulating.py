@@ -8,13 +8,11 @@ from array import array
 from dataclasses import dataclass
 from pathlib import Path
 
-from ..chip.playing import serial
+from ..chip.playing import QUIET, serial
 from .building import CHIP
 
 # the board has two banks of this size, and its programs take the second one
 BANK_BYTES, SECTOR_WORDS = 32 << 20, 0x10000
-# (the emulator would take a file for -kernel as one that starts from the bank)
-QUIET = ("-display", "none", "-monitor", "none", "-nic", "none", "-serial", "pty")
 SLOTS, SLOT_WORDS, MARK = 1280, 20, [0x436F6D6D, 0x69747321]
 BLANK = 0xFFFFFFFF
 
@@ -33,10 +31,16 @@ def content_of(path: Path) -> bytes:
         return file.read(4 * 4 * SECTOR_WORDS)
 
 
-def emulator(program: Path, flash: Path) -> subprocess.Popen[str]:
-    """The emulator with a program and a flash."""
+def emulator_of(program: Path, flash: Path) -> list[str]:
+    """The command line of the emulator with a program and a flash."""
+    # (it would take a file for -kernel as one that starts from the bank)
     drive = f"if=pflash,unit=1,format=raw,file={flash}"
-    words = [*CHIP.emulator, *QUIET, "-drive", drive, "-device", f"loader,file={program}"]
+    return [*CHIP.emulator, "-drive", drive, "-device", f"loader,file={program}"]
+
+
+def emulator(program: Path, flash: Path) -> subprocess.Popen[str]:
+    """The emulator with a program and a flash, and a pseudo-terminal as its serial port."""
+    words = [*emulator_of(program, flash), *QUIET, "-serial", "pty"]
     return subprocess.Popen(words, stdout=subprocess.PIPE, stderr=subprocess.STDOUT, text=True)
 
 

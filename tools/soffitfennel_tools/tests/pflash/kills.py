@@ -20,7 +20,7 @@ from .emulating import Seen, content_of, emulator, look_at, new_flash, port_of
 ALL_TRIES, SEED = 3, 20_261_128
 # RESET RETRY COUNTER of PIN 2, by the factory card's unblocking value
 UNBLOCK_2 = "apdu 002C000210313233343536373831323334FFFFFFFF"
-# the longest life, in seconds: power-on takes 0.1, an update 0.005, and a move, with each 64th update, 2
+# the longest life, in seconds: power-on takes 0.1, in a move 0.3, an update 0.005, and a whole move 2
 SHORT, LONG, PART_OF_LONG = 0.5, 3.5, 0.4
 
 
@@ -100,10 +100,11 @@ def live(program: Path, flash: Path, known: Known, told: Told, chance: random.Ra
     with emulator(program, flash) as process:
         timer = threading.Timer(seconds, process.kill)
         try:
-            port = port_of(process)
+            # (a pseudo-terminal that is not open yet may be another card's behind the kill)
+            port = serial.Port(port_of(process))
             if from_power_on:
                 timer.start()
-            life = Life(Script(serial.Port(port)), known, told, chance)
+            life = Life(Script(port), known, told, chance)
             life.begin()
             if not from_power_on:
                 timer.start()
@@ -119,7 +120,7 @@ def live(program: Path, flash: Path, known: Known, told: Told, chance: random.Ra
 
 def life_ended(process: subprocess.Popen[str], told: Told) -> None:
     """Notes a life that no kill has ended."""
-    end = time.monotonic() + 5
+    end = time.monotonic() + serial.PATIENCE
     while process.poll() is None and time.monotonic() < end:
         time.sleep(0.01)
     if process.poll() is None:

@@ -45,6 +45,8 @@ def compare_mistakes(room: Room) -> None:
         (["--unit", 16], "give --flash too"),
         (["--flash", "--unit", 12], "invalid choice"),
         (["--flash", "--unit", 16, "--sector-words", 1000], "whole slots of 32 words"),
+        # (a sector has two frames, so 65,535 slots and the close mark take 32,768)
+        (["--flash", "--unit", 16, "--sector-words", 64, "--slots", 65_535], "more than 32,767"),
     )
     for words, why in cases:
         ran = tool(PORT, *words, room.folder / "new")

@@ -14,6 +14,7 @@ from concurrent.futures import ThreadPoolExecutor
 from dataclasses import dataclass
 from pathlib import Path
 
+from ...card_image.flash import AREA_WORDS, MARK_WORDS, Flash
 from ...porting.slots import PAGES, SECTOR_WORDS, SLOTS, SPARE_SECTORS, set_size
 from ...porting.writing import write_port
 from ..chip.building import WARNINGS, lacks
@@ -35,6 +36,8 @@ MAP_SECTOR = OWN + SPARES
 WORN_SECTOR = MAP_SECTOR + 2
 # updates within which one sector is erased again, and within which each is
 SOME, ROUND = 100, 260
+# the number of the first update behind these, and the free slots from which on a write takes a step of a move
+LAST, LEAD = SOME + ROUND, 1 + 1024 // 16 + 1
 FAILED, SEED = "< 6581", 20_261_129
 # the longest life, that of a card that has to take a spare first, and the time that a switch takes, in seconds
 LONG, LONG_ENOUGH, SWITCH = 5.0, 300.0, 0.6
@@ -69,6 +72,16 @@ def taken(flash: Path) -> Taken:
         if is_whole and its[16] < OWN:
             places[its[16]] = OWN + entry
     return Taken(places, used, torn)
+
+
+def log_of(flash: Path) -> Flash:
+    """The words of the log, whose sectors lie where the map says."""
+    words = array("I")
+    with flash.open("rb") as file:
+        for place, size in zip(taken(flash).places, (AREA_WORDS, AREA_WORDS, MARK_WORDS)):
+            file.seek(4 * WORDS * place)
+            words.frombytes(file.read(4 * size))
+    return Flash(tuple(words))
 
 
 def room_of_spares(room: Room) -> Room:
@@ -186,7 +199,7 @@ def updates(first: int, count: int) -> list[str]:
 
 
 def compare_uses(room: Room, program: Path) -> None:
-    """Worn sectors are replaced while a spare is free. Behind that writes fail, and reads go on."""
+    """Worn sectors are replaced while a spare is free."""
     flash, read = new_flash(room.folder / "uses.flash"), ["on", SELECT, READ]
     played(program, flash, updates(0, SOME))
     room.checks.same(taken(flash), Taken([0, 1, 2], 0, 0), "no spare is taken for sound sectors")
@@ -196,15 +209,33 @@ def compare_uses(room: Room, program: Path) -> None:
     found = taken(flash)
     is_so = found.places[1] == 1 and sorted(found.places) == [1, 3, 5] and found.used == 3
     room.checks.check(is_so, "each worn sector has a sound spare", f"{found}")
-    room.checks.same(played(program, flash, read)[2:], [f"< {SOME + ROUND - 1:08X}9000"], "the last update is there")
+    room.checks.same(played(program, flash, read)[2:], [f"< {LAST - 1:08X}9000"], "the last update is there")
     wear(flash, *range(MAP_SECTOR))
-    ran = played(program, flash, updates(SOME + ROUND, ROUND))
-    room.checks.same(ran[-1], FAILED, "writes fail where no spare is left")
+    content = flash.read_bytes()
+    for rolls_back in (False, True):
+        compare_worn_out(room, program, new_flash(room.folder / f"worn-out-{rolls_back}.flash", content), rolls_back)
+
+
+def compare_worn_out(room: Room, program: Path, flash: Path, rolls_back: bool) -> None:
+    """A write whose step has to erase a sector fails where no spare is left. Behind a power-on reads go on, unless the
+    write was one of a transaction whose pair counts: then the power-on fails, since it can't roll back.
+
+    A write takes a slot. VERIFY makes two writes, and an update four: a pair, the gate, the word, the gate. So the pair
+    counts where two or three of the four are made."""
+    left = log_of(flash).areas[log_of(flash).home].free - LEAD
+    room.checks.check(left > 2 * 2, "a move is still to begin", f"{left}")
+    counts = (left - 2) % 4 >= 2
+    verified = 1 if counts == rolls_back else 2
+    made_updates = (left - 2 * verified) // 4
+    ran = played(program, flash, ["on", SELECT, *[RIGHT] * verified, *map(update, range(LAST, LAST + ROUND))])
+    room.checks.same(ran[1:], [DONE] * (1 + verified + made_updates) + [FAILED], "writes fail where no spare is left")
     room.checks.same(taken(flash).used, SPARES, "all spares were tried")
-    # (the update that failed is there or not)
-    may_be = [f"< {SOME + ROUND + len(ran) - 4 + it:08X}9000" for it in (-1, 0)]
-    again = played(program, flash, read)
-    room.checks.check(again[-1] in may_be, "reads go on where no spare is left", f"{ran[-3:]}, then {again}")
+    again = played(program, flash, ["on", SELECT, READ])
+    if rolls_back:
+        room.checks.same(again, ["mute"] * 3, "a power-on that can't roll back fails")
+    else:
+        told = f"< {LAST + made_updates - 1:08X}9000"
+        room.checks.same(again[1:], [DONE, told], "reads go on where no spare is left")
 
 
 def kill_behind(process: subprocess.Popen[str], flash: Path, seconds: float, chance: random.Random) -> None:
@@ -226,9 +257,9 @@ def live_worn(program: Path, flash: Path, known: Known, told: Told, chance: rand
     with emulator(program, flash) as process:
         killing = threading.Thread(target=kill_behind, args=(process, flash, seconds, chance))
         try:
-            port = port_of(process)
+            port = serial.Port(port_of(process))
             killing.start()
-            life = Life(Script(serial.Port(port)), known, told, chance)
+            life = Life(Script(port), known, told, chance)
             life.begin()
             while not told.wrong:
                 life.step()

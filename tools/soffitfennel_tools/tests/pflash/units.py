@@ -2,6 +2,7 @@
 from __future__ import annotations
 
 import os
+import shutil
 
 from ...chips.module import FLASH as CRATE
 from ...porting.slots import PAGES, SECTOR_WORDS, SLOTS
@@ -27,6 +28,29 @@ def compare_port(room: Room) -> None:
         for place, number in size.places.items():
             found = [number.findall((port / place).read_text(encoding="utf-8")) for port in (room.port, larger)]
             room.checks.same(found, [[it] for it in wanted], f"the {size.what} in {place}")
+
+
+def compare_notes(room: Room) -> None:
+    """A port with too few slots for short writes is written, and a note says how many would do (docs/FLASH.md, "The
+    pause"). By hand: 4,096 pages need 4,096 + 512 + 1 slots and one for each of 2 sectors. 1,024 need 1,153 and one for
+    each sector: with sectors of 64 words 1,678 slots have 525; in frames of 32 words 2,307 slots have 1,154."""
+    cases: tuple[tuple[list[object], str], ...] = (
+        ([], ""),
+        (["--pages", 4096, "--slots", 4352], "4,611"),
+        (["--pages", 4096, "--slots", 4610], "4,611"),
+        (["--pages", 4096, "--slots", 4611], ""),
+        (["--sector-words", 64, "--slots", 1677], "1,678"),
+        (["--sector-words", 64, "--slots", 1678], ""),
+        (["--unit", 4, "--sector-words", 64], "2,307"),
+        (["--unit", 4, "--sector-words", 64, "--slots", 2307], ""),
+    )
+    for at, (words, least) in enumerate(cases):
+        port = room.folder / f"noted{at}"
+        ran = tool(PORT, "--flash", *words, port)
+        note = f"with fewer than {least} slots a write may move all pages: see docs/FLASH.md, The pause"
+        wanted = (0, f"{port}\n", f"tools/port: note: {note}\n" if least else "")
+        room.checks.same((ran.returncode, ran.stdout, ran.stderr), wanted, f"tools/port --flash {words}")
+        shutil.rmtree(port, ignore_errors=True)
 
 
 def compare_mistakes(room: Room) -> None:
@@ -98,5 +122,5 @@ def compare_image(room: Room) -> None:
 
 def compare(room: Room) -> None:
     """All of them."""
-    for it in (compare_port, compare_mistakes, compare_slots, compare_image):
+    for it in (compare_port, compare_notes, compare_mistakes, compare_slots, compare_image):
         it(room)
