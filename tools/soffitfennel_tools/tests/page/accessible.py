@@ -5,7 +5,7 @@ from __future__ import annotations
 from pathlib import Path
 from typing import Any
 
-from .browsers import Browser
+from .browsers import SIZE, Browser
 from .comparing import Tally
 from .visitor import Visitor
 
@@ -18,6 +18,8 @@ LEAST = {"button", "checkbox", "combobox", "textbox", "slider", "link", "region"
 # the smallest contrast of text, and of the edge of a thing that one uses
 OF_TEXT, OF_EDGES = 4.5, 3
 NARROW, ZOOMED = 390, 320
+# up to this width the page has its narrow form (page.css)
+NARROW_FORM = 900
 WANTED_FORM = {
     "language": "en",
     "title": True,
@@ -27,6 +29,7 @@ WANTED_FORM = {
     "unreached": [],
     "keepsZoom": True,
 }
+SCHEMES = ("light", "dark")
 MOST_TABS = 60
 REACHED = (
     "example",
@@ -66,34 +69,39 @@ def form(browser: Browser, tally: Tally) -> None:
     tally.same(came["headings"], "H1" + 5 * " H2", f"{browser.name}: the headings")
 
 
-def contrast(browser: Browser, tally: Tally) -> None:
+def contrast(visitor: Visitor, browser: Browser, tally: Tally) -> None:
     """Text and edges against what is behind them, in light and dark."""
     for is_dark in (False, True):
         browser.dark(is_dark)
-        came = browser.run("return matchMedia('(prefers-color-scheme: dark)').matches")
-        tally.same(came, is_dark, f"{browser.name}: the visitor's colours")
+        # (a page is told of them later than the browser)
+        visitor.until(f"matchMedia('(prefers-color-scheme: {SCHEMES[is_dark]})').matches", "the visitor's colours")
         came = ask(browser, "contrast", OF_TEXT, OF_EDGES)
         tally.same(came, [], f"{browser.name}: contrast {'in the dark' if is_dark else 'in the light'}")
     browser.dark(False)
 
 
-def widths(browser: Browser, tally: Tally) -> None:
+def widths(visitor: Visitor, browser: Browser, tally: Tally) -> None:
     """The page fits narrow screens, and a zoom of 400 %."""
     for width in (NARROW, ZOOMED):
         browser.size(width, 800)
+        visitor.until(f"innerWidth <= {width}", f"a window of {width} pixels")
         came = browser.run("return document.documentElement.scrollWidth")
         tally.true(came <= width, f"{browser.name}: a width of {width} pixels: the page has {came}")
-    browser.size(1400, 1000)
+    browser.size(*SIZE)
+    visitor.until(f"innerWidth > {NARROW_FORM}", "a wide window again")
 
 
-def keys(browser: Browser, tally: Tally) -> None:
+def keys(visitor: Visitor, browser: Browser, tally: Tally) -> None:
     """Tab goes to each thing, and out again."""
     browser.run("document.querySelector('a').focus()")
     reached, unseen = [], []
     for _ in range(MOST_TABS):
+        browser.run("window.left = document.activeElement")
         browser.send(TAB)
+        # (the focus may move a moment behind the key)
+        is_left = visitor.comes_to("document.activeElement !== window.left")
         reached.append(ask(browser, "focus"))
-        if not reached[-1]:
+        if not reached[-1] or not is_left:
             break
         if not ask(browser, "isFocusSeen"):
             unseen.append(reached[-1])
@@ -101,7 +109,7 @@ def keys(browser: Browser, tally: Tally) -> None:
     for it in REACHED:
         tally.true(it in reached, f"{browser.name}: Tab reaches {it}, among {reached}")
     tally.true(any("," in it for it in reached), f"{browser.name}: Tab reaches a cell of the grid, among {reached}")
-    tally.true(len(reached) < MOST_TABS, f"{browser.name}: Tab leaves the page")
+    tally.true(reached[-1] == "" and len(reached) < MOST_TABS, f"{browser.name}: Tab leaves the page: {reached[-1]}")
 
 
 def check(visitor: Visitor, browser: Browser, tally: Tally) -> None:
@@ -111,5 +119,8 @@ def check(visitor: Visitor, browser: Browser, tally: Tally) -> None:
     browser.run("document.querySelectorAll('details').forEach((it) => { it.open = true; })")
     browser.run("document.querySelectorAll('.cell')[20].dispatchEvent(new MouseEvent('click'))")
     visitor.until("soffitfennel.state.found && document.querySelector('#touched b')", "a cut")
-    for it in (names, form, contrast, widths, keys):
-        it(browser, tally)
+    names(browser, tally)
+    form(browser, tally)
+    contrast(visitor, browser, tally)
+    widths(visitor, browser, tally)
+    keys(visitor, browser, tally)

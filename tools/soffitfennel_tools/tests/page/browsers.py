@@ -65,6 +65,18 @@ class Missing(Exception):
     """A browser that isn't installed."""
 
 
+def drop(room: tempfile.TemporaryDirectory[str]) -> None:
+    """Drops a browser's folder, in which processes that it has started may write for a while behind its own end."""
+    end = time.monotonic() + SECONDS
+    while True:
+        try:
+            return room.cleanup()
+        except OSError:
+            if time.monotonic() > end:
+                raise
+            time.sleep(0.1)
+
+
 class Browser(Protocol):
     """What the tests need of a browser."""
 
@@ -229,7 +241,7 @@ class Chromium:
             pass
         self.process.terminate()
         self.process.wait(SECONDS)
-        self.room.cleanup()
+        drop(self.room)
 
 
 class Firefox:
@@ -273,18 +285,24 @@ class Firefox:
         end = time.monotonic() + SECONDS
         while time.monotonic() < end and self.process.poll() is None:
             if port.is_file() and (digits := port.read_text()).isdigit():
-                return socket.create_connection(("127.0.0.1", int(digits)))
+                return socket.create_connection(("127.0.0.1", int(digits)), 2 * SECONDS)
             time.sleep(0.1)
         raise Missing("a firefox-esr that starts")
+
+    def take(self, size: int) -> bytes:
+        """At most so many bytes of the connection, which has not ended."""
+        if not (part := self.line.recv(size)):
+            raise ConnectionError("Firefox has ended")
+        return part
 
     def read(self) -> Any:
         """One message: its length, a colon, JSON."""
         digits = b""
-        while (it := self.line.recv(1)) != b":":
+        while (it := self.take(1)) != b":":
             digits += it
         text = b""
         while len(text) < int(digits):
-            text += self.line.recv(int(digits) - len(text))
+            text += self.take(int(digits) - len(text))
         return json.loads(text)
 
     def call(self, name: str, more: dict[str, Any]) -> Any:
@@ -360,4 +378,4 @@ class Firefox:
             self.process.terminate()
         self.line.close()
         self.process.wait(SECONDS)
-        self.room.cleanup()
+        drop(self.room)

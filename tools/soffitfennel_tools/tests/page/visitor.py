@@ -10,7 +10,8 @@ from .browsers import Browser
 from .comparing import Tally, fragment
 
 UP, DOWN, RIGHT, ENTER, ALT, CONTROL = "\ue013", "\ue015", "\ue014", "\ue007", "\ue00a", "\ue009"
-SECONDS = 120
+# seconds that the page may take for a step: a sweep of many writes is slow on a machine that other programs use too
+SECONDS = 600
 # of PIN 1 of the factory card, and another one
 PIN, OTHER_PIN = "31323334FFFFFFFF", "3938373635FFFFFF"
 STEP, EXAMPLE = (f"const it = document.querySelector('#{it}')" for it in ("step", "example"))
@@ -41,6 +42,15 @@ return {
   turns: all("#grid .turn").length, tally: document.querySelector("#tally").textContent,
 };
 """
+# whether the page has run the text as it is now: it runs what is typed a moment behind the last key
+IS_RUN = """(({ state }) => state && state.lines.map((it) => it.text).join("\\n") ===
+  document.querySelector("#text").value.replace(/\\n$/, ""))(window.soffitfennel)"""
+# resolves behind the error of an image: one that the page had before has had its own by then
+IMAGE_FAILS = """
+const [done] = arguments, it = new Image();
+it.onerror = () => done(true);
+it.src = "data:,";
+"""
 # the colours of cards, as tools/sweep --picture has them
 CARDS = {"as before the command": "#0072b2", "as after the command": "#e69f00"}
 
@@ -59,12 +69,16 @@ class Visitor:
         """The text of an element."""
         return str(self.browser.run("return document.querySelector(arguments[0]).textContent", selector))
 
-    def until(self, holds: str, what: str) -> None:
-        """Waits until an expression of the page holds; counts it."""
+    def comes_to(self, holds: str) -> bool:
+        """Waits until an expression of the page holds; whether it does."""
         end = time.monotonic() + SECONDS
         while not (came := self.browser.run(f"return !!({holds})")) and time.monotonic() < end:
             time.sleep(0.02)
-        self.same(came, True, what)
+        return bool(came)
+
+    def until(self, holds: str, what: str) -> None:
+        """Waits until an expression of the page holds; counts it."""
+        self.same(self.comes_to(holds), True, what)
 
     def come(self, more: str = "") -> None:
         """Opens the page anew."""
@@ -79,8 +93,12 @@ class Visitor:
             it.setSelectionRange(it.value.length, it.value.length); it.dispatchEvent(new Event("input"))""",
             text,
         )
-        lines = text.split("\n")
-        self.until(f"soffitfennel.state.lines.length === {len(lines) - (not lines[-1])}", "the script is taken")
+        self.until(IS_RUN, "the script is taken")
+
+    def types_keys(self, text: str) -> None:
+        """Types keys in the script, until it has run with all of them."""
+        self.browser.keys("#text", text)
+        self.until(IS_RUN, "runs what is typed")
 
     def printed(self) -> list[str]:
         """What the lines print."""
@@ -120,14 +138,14 @@ class Visitor:
     def types(self) -> None:
         """Types commands, a name, a bad line."""
         self.script("")
-        self.browser.keys("#text", f"on{ENTER}apdu 00A4000C027F10{ENTER}select 2FE2{ENTER}read 0 4{ENTER}")
-        self.until("soffitfennel.state.run.rows.length === 4", "runs what is typed")
+        self.types_keys(f"on{ENTER}apdu 00A4000C027F10{ENTER}select 2FE2{ENTER}read 0 4{ENTER}")
+        self.same(self.browser.run("return soffitfennel.state.run.rows.length"), 4, "four lines")
         wanted = "on\napdu 00A4000C027F10\napdu 00A4000C022FE2\napdu 00B0000004\n"
         self.same(self.value(), wanted, "names become lines")
         self.same(self.printed()[1:], ["< 6A82", "< 9000", "< 981032549000"], "answers")
         self.same("file not found: no file 7F10 is reached from 3F00" in self.text("#answers"), True, "says why")
-        self.browser.keys("#text", "aplu 00A4")
-        self.until("soffitfennel.state.run.rows.length === 5", "runs up to a bad line")
+        self.types_keys("aplu 00A4")
+        self.same(self.browser.run("return soffitfennel.state.run.rows.length"), 5, "runs up to a bad line")
         self.same(self.printed()[-1], "error line 5", "a bad line")
         self.same(
             self.text("#because"),
@@ -188,7 +206,7 @@ class Visitor:
         self.browser.keys("#text", ALT + UP)
         self.until("soffitfennel.state.at === 4", "Alt and up go back")
         self.browser.keys("#pages", RIGHT + RIGHT)
-        self.same(self.text("#pointed").startswith("word "), True, "the memory's words by keys")
+        self.until("document.querySelector('#pointed').textContent.startsWith('word ')", "the memory's words by keys")
         self.choose(0)
         self.browser.run("document.querySelectorAll('#answers li')[4].click()")
         # (on a busy machine a write may be shown for less time than a question takes)
@@ -241,7 +259,7 @@ class Visitor:
         self.until("location.hash.startsWith('#s=')", "a link is made")
         self.come(self.browser.run("return location.hash"))
         self.same(self.value(), script, "a link holds the script")
-        time.sleep(0.2)
+        self.same(self.browser.wait_for(IMAGE_FAILS), True, "an image of the page fails")
         hurt = (
             "return window.hurt !== undefined || document.querySelector('img, #answers svg, #answers script') !== null"
         )
