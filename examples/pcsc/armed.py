@@ -20,12 +20,12 @@ def ask(card: Any, command: str) -> None:
 
 
 def insert() -> Any:
-    for _ in range(20):
+    for _ in range(120):
         try:
             card = next(it for it in readers() if "Soffitfennel" in str(it)).createConnection()
             card.connect()
             return card
-        except NoCardException:
+        except (StopIteration, NoCardException):
             time.sleep(0.5)
     raise SystemExit("no card")
 

@@ -38,6 +38,12 @@ def image_given(program: list[str]) -> Image | None:
         return None
 
 
+def copied(image: Image, program: list[str]) -> bytes:
+    """The bytes of the card in a file, for a program with these words: one with a flash has its seed first."""
+    is_on_flash = len(program) > 1 and program[1].isdigit()
+    return image.flash.data() if image.flash and is_on_flash else image.data()
+
+
 class Twin:
     """The lines so far, and the program that plays them again, with its words; without a program nothing is asked."""
 
@@ -71,7 +77,7 @@ class Twin:
         with TemporaryDirectory() as room:
             copy = FilePath(room) / "card"
             if self.image:
-                write(copy, self.image.data())
+                write(copy, copied(self.image, self.program))
             pairs = zip(["", *self.program], self.program)
             words = [str(copy) if before == "--card" else word for before, word in pairs]
             return subprocess.run(

@@ -13,7 +13,7 @@ from .card import BadCard
 from .faults import FAULTS
 
 TOOL = Path(__file__).resolve().parent.parent.parent / "badcard"
-PATIENCE = 20
+PATIENCE = 60
 PATTERN = bytes((7 * it + 3) & 255 for it in range(255)).hex().upper()
 CYCLIC = "apdu 00E000001A621882044621000383026F038800800200098A01058C03030000"
 BINARY = "apdu 00E000001962178202412183026F02880118800201008A01058C03030000"

@@ -11,7 +11,7 @@ from ..card_image.image import image_of
 from ..card_image.telling import file_values, pin_values
 from ..card_image.tree import Card, read
 
-PATIENCE = 20
+PATIENCE = 60
 
 
 class Strange(Exception):

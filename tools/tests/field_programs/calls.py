@@ -7,6 +7,8 @@ from __future__ import annotations
 import threading
 import time
 from collections.abc import Callable
+from contextlib import redirect_stdout
+from io import StringIO
 from typing import Any
 
 import smartcard.scard as pc
@@ -20,6 +22,10 @@ LEAVE, RESET, UNPOWER = pc.SCARD_LEAVE_CARD, pc.SCARD_RESET_CARD, pc.SCARD_UNPOW
 UNAWARE, PRESENT, EMPTY = pc.SCARD_STATE_UNAWARE, pc.SCARD_STATE_PRESENT, pc.SCARD_STATE_EMPTY
 IN_USE, ALONE = PRESENT | pc.SCARD_STATE_INUSE, PRESENT | pc.SCARD_STATE_EXCLUSIVE
 SELECT, READ = "00A4000C022FE2", "00B000000A"
+# seconds that a call which doesn't wait for another one may take, on a machine that other programs use too
+AT_ONCE = 60
+# a card that lost power is out for a second at least; how often it loses power until the calls were made within it
+OUT_FOR, TRIES = 1.0, 10
 
 
 def show(what: str, result: Any) -> None:
@@ -44,9 +50,10 @@ def connect(what: str, context: int, share: int = SHARED, protocols: int = T1) -
     return int(card)
 
 
-def status(what: str, card: int) -> None:
+def status(what: str, card: int) -> int:
     code, *rest = pc.SCardStatus(card)
     show(what, [code, rest[0], hex(rest[1] & 0xFFFF), rest[2], bytes(rest[3]).hex()] if code == 0 else [code])
+    return int(code)
 
 
 def send(what: str, card: int, text: str, form: Any = pc.SCARD_PCI_T1) -> None:
@@ -54,12 +61,12 @@ def send(what: str, card: int, text: str, form: Any = pc.SCARD_PCI_T1) -> None:
     show(what, [code, bytes(rest[0]).hex()] if code == 0 else [code])
 
 
-def outside(what: str, owner: int, call: Callable[[], Any]) -> None:
-    """A call of another connection while a transaction of depth 2 is open: whether it waits for its end."""
+def outside(what: str, owner: int, call: Callable[[], Any], seconds: int = 2) -> None:
+    """A call of another connection while a transaction of depth 2 is open: whether it waits for its end, so long."""
     found: list[Any] = []
     thread = threading.Thread(target=lambda: found.append(call()))
     thread.start()
-    thread.join(2)
+    thread.join(seconds)
     print(what, "is told at once" if found else "waits", flush=True)
     if not found:
         for _ in range(2):
@@ -117,9 +124,10 @@ def transactions(card: int, other: int, second: int) -> None:
     send("within", card, READ)
     apdu = list(bytes.fromhex(READ))
     outside("transmit from outside", card, lambda: pc.SCardTransmit(other, pc.SCARD_PCI_T1, apdu))
-    outside("control from outside", card, lambda: pc.SCardControl(other, pc.SCARD_CTL_CODE(3400), []))
+    outside("control from outside", card, lambda: pc.SCardControl(other, pc.SCARD_CTL_CODE(3400), []), AT_ONCE)
     outside("status from outside", card, lambda: pc.SCardStatus(other))
-    outside("attribute from outside", card, lambda: pc.SCardGetAttrib(other, pc.SCARD_ATTR_ATR_STRING))
+    attribute = pc.SCARD_ATTR_ATR_STRING
+    outside("attribute from outside", card, lambda: pc.SCardGetAttrib(other, attribute), AT_ONCE)
     outside("reconnect from outside", card, lambda: pc.SCardReconnect(other, SHARED, T1, LEAVE))
 
     def join() -> Any:
@@ -195,10 +203,18 @@ def timeouts(first: int) -> None:
     began = time.monotonic()
     states("timeout", first, 300, (READER, IN_USE))
     print("it took", 0.25 < time.monotonic() - began < 60)
-    timer = threading.Timer(0.3, lambda: pc.SCardCancel(first))
-    timer.start()
+    is_over = threading.Event()
+
+    def cancel() -> None:
+        # (a wait that hasn't begun yet isn't cancelled)
+        while not is_over.wait(0.3):
+            pc.SCardCancel(first)
+
+    thread = threading.Thread(target=cancel)
+    thread.start()
     states("cancelled", first, 60_000, (READER, IN_USE))
-    timer.join()
+    is_over.set()
+    thread.join()
     show("cancel nothing", pc.SCardCancel(77))
 
 
@@ -222,17 +238,37 @@ def ends(first: int, second: int, card: int) -> None:
     states("free again", first, 0, (READER, ALONE))
 
 
-def faults(first: int, second: int) -> int:
-    """A power cut, by which the card is gone for two seconds, and blocks that are lost and garbled."""
-    card = connect("once more", first)
+def cut(first: int, second: int, card: int) -> bool:
+    """A power cut, and calls while the card is out. Whether they were in time: the first ones before pcscd had looked
+    for the card, as it does each 0.4 seconds, and the last one before the card was back."""
     send("select", card, SELECT)
     send("verify", card, "002000010831323334FFFFFFFF")
     code_of("set a cut", pc.SCardControl(card, pc.SCARD_CTL_CODE(1), [0, 0, 0, 3, 0, 1]))
+    begun = time.monotonic()
     send("cut", card, "00D6000004CAFEBABE")
     send("dark", card, "00B0000004")
-    status("dark", card)
+    is_unseen = status("dark", card) == pc.SCARD_S_SUCCESS
     states("seen away", first, 1500, (READER, IN_USE))
-    code_of("connect away", pc.SCardConnect(second, READER, SHARED, T1))
+    found = pc.SCardConnect(second, READER, SHARED, T1)
+    code_of("connect away", found)
+    is_out = time.monotonic() - begun < OUT_FOR
+    if found[0] == pc.SCARD_S_SUCCESS:
+        pc.SCardDisconnect(found[1], LEAVE)
+    return is_unseen and is_out
+
+
+def faults(first: int, second: int) -> int:
+    """A power cut, by which the card is gone for two seconds, and blocks that are lost and garbled."""
+    card = connect("once more", first)
+    for _ in range(TRIES):
+        told = StringIO()
+        with redirect_stdout(told):
+            is_in_time = cut(first, second, card)
+        if is_in_time:
+            break
+        while pc.SCardReconnect(card, SHARED, T1, RESET)[0] != pc.SCARD_S_SUCCESS:
+            time.sleep(0.1)
+    print(told.getvalue(), end="", flush=True)
     states("seen back", first, 60_000, (READER, EMPTY | pc.SCARD_STATE_INUSE))
     send("removed", card, "00B0000004")
     show("reconnect", pc.SCardReconnect(card, SHARED, T1, RESET))

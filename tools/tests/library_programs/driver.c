@@ -15,6 +15,7 @@
 #include <sys/stat.h>
 #include <sys/syscall.h>
 #include <sys/sysmacros.h>
+#include <time.h>
 #include <unistd.h>
 
 enum { PATH_ROOM = 4096, CARD_SIZE = 65536 };
@@ -42,6 +43,16 @@ static void same(long came, long wanted, const char *what)
         failed++;
         printf("FAIL %s: %ld, wanted %ld\n", what, came, wanted);
     }
+}
+
+/* The driver's clock: it stands still until the test sets it forward. */
+static time_t clock_now = 1000;
+
+int clock_gettime(clockid_t clock, struct timespec *now)
+{
+    (void)clock;
+    *now = (struct timespec){clock_now, 0};
+    return 0;
 }
 
 /* The driver's link: another program may be a moment faster. */
@@ -213,10 +224,12 @@ static void copy(const char *from, const char *to)
     must(write(target, bytes, sizeof bytes) == sizeof bytes && close(source) == 0 && close(target) == 0, to);
 }
 
+/* A card that lost power is out for two seconds. */
 static void wait_for_card(DWORD lun)
 {
-    for (int i = 0; i < 600 && presence(lun) != IFD_ICC_PRESENT; i++)
-        usleep(100000);
+    clock_now++;
+    same(presence(lun), IFD_ICC_NOT_PRESENT, "the card is out for more than a second");
+    clock_now++;
     same(presence(lun), IFD_ICC_PRESENT, "the card comes back");
 }
 

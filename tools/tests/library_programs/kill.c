@@ -6,6 +6,7 @@
 
 #include <endian.h>
 #include <fcntl.h>
+#include <poll.h>
 #include <signal.h>
 #include <stdbool.h>
 #include <stdio.h>
@@ -117,6 +118,9 @@ static struct message kill_one(int file, uint32_t number)
     if (child == 0)
         work(file, ends[1], number);
     close(ends[1]);
+    /* Half of the kills wait for the first command: on a busy machine the others may come before it. */
+    struct pollfd said = {ends[0], POLLIN, 0};
+    must(rand() % 2 || poll(&said, 1, -1) == 1, "no word of the program", 0);
     nanosleep(&wait, NULL);
     kill(child, SIGKILL);
     waitpid(child, &status, 0);

@@ -34,6 +34,8 @@ pin 1
   puk "12345678"
 pin 2 to 8 blocked
 """
+# the further lines of a DF
+NAMED = '  name "ABC"\n  rule create EF: PIN 8\n'
 # what is put in the place of a line of SMALL, and what is said of it
 WRONG = {
     ("pages 1024", "pages 1023"): "line 1: the number of pages is a number from 1024 to 4096, and not '1023'",
@@ -55,6 +57,11 @@ WRONG = {
     ("linear 4 x 3", "linear 256 x 3"): "line 8: the length of a record is a number from 1 to 255",
     ("linear 4 x 3", "linear 4"): "line 8: a linear EF has a size such as '28 x 10'",
     ("2F00 linear 4 x 3", "2FE2 linear 4 x 3"): "line 8: 3F00/2FE2 is described twice",
+    ("linear 4 x 3", "linear 4 x 3\n  short 2"): "line 8: 3F00/2F00 has the short identifier 2 of 3F00/2FE2",
+    (
+        "file 3F00/2F00",
+        f"file 3F00/7F10 df\n{NAMED}file 3F00/7F11 df\n{NAMED}file 3F00/2F00",
+    ): "line 11: 3F00/7F11 has the name of 3F00/7F10",
     ("  rule read: always\n", ""): "line 8: 3F00/2F00 has no rule",
     ("record 01", "record 0102030405"): "line 8: a record of 3F00/2F00 has 4 bytes, and one that is given 5",
     ("record 01", "records 4"): "line 8: 3F00/2F00 has room for 3 records, and not for 4",
@@ -76,13 +83,15 @@ class RoundTrips(Room):
 
     def test_cards_come_back(self) -> None:
         for name in MADE:
-            card, text, again = (self.room / f"{name}{it}" for it in (".1", ".card", ".2"))
+            card, text, again, by_json = (self.room / f"{name}{it}" for it in (".1", ".card", ".2", ".3"))
             pages = ["--pages", "2048"] if name == "personalise" else []
             script = (TOP / "examples" / f"{name}.script").read_text(encoding="ascii")
             run([str(TOP / "bench"), "-q", "--card", str(card), *pages], stdin=script)
             self.tool("issue", "--describe", card, text)
             self.tool("issue", text, again)
             self.assertEqual(self.tool("card", "--diff", card, again), "", name)
+            self.tool("issue", self.file(self.tool("card", "--json", "--secrets", card), f"{name}.json"), by_json)
+            self.assertEqual(self.tool("card", "--diff", card, by_json), "", f"{name} by JSON")
 
     def test_examples_come_back(self) -> None:
         for kind in ("uicc", "identity", "purse"):
@@ -188,6 +197,8 @@ class WrongLines(Room):
     def test_the_small_card(self) -> None:
         self.tool("issue", self.file(SMALL), self.room / "out")
         self.says(self.room / "out", {"00A4000C022FE2": "9000", "00B0000003": "0102FF9000", "00A4000C022F00": "9000"})
+        # (a text that is shorter than a PIN is padded with FF)
+        self.says(self.room / "out", {"002000010831323334FFFFFFFF": "9000"})
 
     def test_each_wrong_line(self) -> None:
         for (old, new), why in WRONG.items():

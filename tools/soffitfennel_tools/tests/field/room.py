@@ -10,7 +10,8 @@ from pathlib import Path
 
 TOP = Path(__file__).resolve().parent.parent.parent.parent.parent
 CARDS = TOP / "examples" / "cards"
-PATIENCE = 300
+# seconds that a tool may take: the slowest builds a library, on a machine that other programs use too
+PATIENCE = 900
 
 
 class Room(unittest.TestCase):

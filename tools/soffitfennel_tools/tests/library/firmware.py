@@ -162,7 +162,12 @@ def compare_steps(tests: Tests, image: Path) -> None:
     listed = tests.call("aarch64-linux-gnu-nm", image).stdout.splitlines()
     at = {it.split(" ", 2)[2]: int(it.split(" ", 1)[0], 16) for it in listed}
     compare = next(place for name, place in at.items() if "settling::compare" in name)
-    calls = [call_in(executed(tests, image, it), at["soffitfennel_block"], at["soffitfennel_store"]) for it in VALUES]
+    block, store = at["soffitfennel_block"], at["soffitfennel_store"]
+    ran = [executed(tests, image, it) for it in VALUES]
+    # (a board without its card stores nothing, and has nothing to compare)
+    if not tests.holds(all(store in it for it in ran), "each VERIFY stores a word", f"{[len(it) for it in ran]}"):
+        return
+    calls = [call_in(it, block, store) for it in ran]
     before, behind = zip(*calls)
     tests.holds(all(it == before[0] for it in before), "instructions before the store", str([len(it) for it in before]))
     tests.holds(not any(compare in it for it in before), "no comparison is before the store")
@@ -173,7 +178,7 @@ def compare_steps(tests: Tests, image: Path) -> None:
 
 def use(tests: Tests, image: Path, script: Path) -> str:
     """The bytes of heap and stack in use behind a script."""
-    return tests.call(SERIAL, "--image", image, "--use", script).stdout.splitlines()[-1]
+    return (tests.call(SERIAL, "--image", image, "--use", script).stdout.splitlines() or [""])[-1]
 
 
 def compare_numbers(tests: Tests, image: Path, largest: Path) -> None:
