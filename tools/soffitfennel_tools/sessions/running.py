@@ -16,6 +16,7 @@ from pathlib import Path
 from ..card_image.image import Unreadable, read_image
 from ..card_image.tree import read
 from ..programs import past_file_limits
+from ..stopping import wake_for_signals
 
 from .building import NAME, TOP, Refused, built
 
@@ -140,6 +141,7 @@ def run(command: list[str], session: Session) -> int:
 
     for number in (signal.SIGTERM, signal.SIGHUP):
         signal.signal(number, pass_on)
+    wake_for_signals()
     try:
         # (a card that its file doesn't take is gone for the program, which goes on)
         process = subprocess.Popen(command, env=session.environment, preexec_fn=past_file_limits)
