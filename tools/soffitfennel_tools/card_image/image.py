@@ -98,6 +98,8 @@ def read_image(path: str) -> tuple[Image, bool]:
             is_used = not can_lock(it.fileno())
             data = it.read(layout.MOST_PAGES * layout.PAGE_BYTES + 1)
             size = os.fstat(it.fileno()).st_size
+            # (a process that another thread is starting has the open file, and its lock, for a moment longer)
+            fcntl.flock(it.fileno(), fcntl.LOCK_UN)
     except OSError as error:
         raise Unreadable(f"{path}: {error.strerror}") from error
     if len(data) == IMAGE_BYTES:

@@ -16,11 +16,12 @@ from pathlib import Path
 from ..card_image.image import Unreadable, read_image
 from ..card_image.tree import read
 from ..programs import past_file_limits
-from ..stopping import wake_for_signals
 
 from .building import NAME, TOP, Refused, built
 
 MOST_CARDS = 4
+# the signals that a session waits for: its program has ended, or the tool is to end
+TAKEN = (signal.SIGCHLD, signal.SIGTERM, signal.SIGHUP)
 OPENSC = TOP / "examples" / "cards" / "opensc.conf"
 PREFIX = "SOFFITFENNEL_"
 PINS = re.compile(r"[0-9A-Fa-f]{2}=[1-8](,[0-9A-Fa-f]{2}=[1-8])*")
@@ -130,27 +131,25 @@ def environment(settings: Settings, cards: list[str], counters: Path, library: P
 
 
 def run(command: list[str], session: Session) -> int:
-    """The exit status of a program, as a shell tells it."""
-    started: list[subprocess.Popen[bytes]] = []
+    """The exit status of a program, as a shell tells it. A signal that would end the tool ends the program, and the
+    tool with it."""
+    # (taken by sigwait, so that none is lost while the program starts, or right before a wait)
+    before = signal.pthread_sigmask(signal.SIG_BLOCK, TAKEN)
 
-    def pass_on(number: int, _: object) -> None:
-        """A signal that would end the tool ends the program, and the tool with it."""
-        if not started:
-            raise SystemExit(128 + number)
-        started[0].send_signal(number)
-
-    for number in (signal.SIGTERM, signal.SIGHUP):
-        signal.signal(number, pass_on)
-    wake_for_signals()
-    try:
+    def begin() -> None:
         # (a card that its file doesn't take is gone for the program, which goes on)
-        process = subprocess.Popen(command, env=session.environment, preexec_fn=past_file_limits)
-        started.append(process)
+        past_file_limits()
+        signal.pthread_sigmask(signal.SIG_SETMASK, before)
+
+    try:
+        process = subprocess.Popen(command, env=session.environment, preexec_fn=begin)
     except FileNotFoundError:
         raise Refused(f"there is no program {command[0]}") from None
     except OSError as why:
         raise Refused(f"{command[0]} can't be run: {why.strerror}") from None
     # (a terminal's Ctrl-C reaches the program too, which decides what it does)
     signal.signal(signal.SIGINT, signal.SIG_IGN)
-    status = process.wait()
+    while (status := process.poll()) is None:
+        if (number := signal.sigwait(TAKEN)) != signal.SIGCHLD:
+            process.send_signal(number)
     return 128 - status if status < 0 else status

@@ -33,6 +33,8 @@ SERVICE = """mkdir -p /run/pcscd && mount -t tmpfs tmpfs /run/pcscd || exit 1
 for _ in $(seq 600); do [ -S /run/pcscd/pcscd.comm ] && break; sleep 0.1; done
 /usr/bin/python3 "$2"; status=$?; kill $!; wait; exit $status"""
 ICCID = "981032547698103254769000"
+# seconds that a program goes on if it isn't ended
+PATIENCE = 60
 USIM = "A0000000871002FFFFFFFF8907090000"
 # a UICC: what the card says by itself, and what the reader says with --uicc (TS 102 221)
 MODEM = {
@@ -122,6 +124,16 @@ class Signals(Session):
         ignored = int(shown.split()[1], 16)
         self.assertTrue(ignored >> (signal.SIGXFSZ - 1) & 1, shown)
         self.assertFalse(ignored >> (signal.SIGPIPE - 1) & 1, shown)
+        blocked = self.output("--fresh", "--", "grep", "SigBlk", "/proc/self/status")
+        self.assertEqual(int(blocked.split()[1], 16), 0, blocked)
+
+    def test_a_signal_reaches_a_program_that_has_just_begun(self) -> None:
+        for name, status in (("TERM", 143), ("HUP", 129)) * 3:
+            begun = time.monotonic()
+            came = self.with_card("--fresh", "--", "sh", "-c", f"kill -{name} $PPID; exec sleep {PATIENCE}")
+            self.assertEqual((came.returncode, came.stdout, came.stderr), (status, "", ""))
+            # (its output is open until it has ended)
+            self.assertLess(time.monotonic() - begun, PATIENCE)
 
 
 class Programs(Session):
