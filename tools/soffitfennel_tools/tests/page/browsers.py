@@ -1,6 +1,6 @@
 """Chromium by chromedriver's HTTP, and Firefox by its own protocol, Marionette, since Debian has no geckodriver.
 
-Neither has a window, nor a way to any other machine."""
+Neither has a window, nor a way to any other machine. One that doesn't come up is started again."""
 from __future__ import annotations
 
 import base64
@@ -14,6 +14,7 @@ import tempfile
 import time
 import urllib.error
 import urllib.request
+from collections.abc import Callable
 from pathlib import Path
 from typing import Any, Protocol
 
@@ -25,6 +26,8 @@ WIDE = 1280
 # what may have a role that needs a name
 NAMED = "a, button, input, select, textarea, summary, h1, h2, h3, canvas, section, [role]"
 SECONDS = 300
+# how often a browser is started at most, where it doesn't come up
+STARTS = 3
 # (a proxy of the environment isn't asked for this machine)
 OPENER = urllib.request.build_opener(urllib.request.ProxyHandler({}))
 ELEMENT = "element-6066-11e4-a52e-4f735466cecf"
@@ -63,6 +66,10 @@ return all.filter(isOfPage).map((it) => it.errorMessage + " " + it.sourceName);
 
 class Missing(Exception):
     """A browser that isn't installed."""
+
+
+class Unstarted(Exception):
+    """A browser that doesn't come up."""
 
 
 def drop(room: tempfile.TemporaryDirectory[str]) -> None:
@@ -139,11 +146,19 @@ class Chromium:
             text=True,
             preexec_fn=dies_with_parent,
         )
+        try:
+            self.begin(program)
+        except (Unstarted, RuntimeError, OSError) as why:
+            self.end()
+            raise Unstarted(f"{self.name}: {why}") from None
+
+    def begin(self, program: str) -> None:
+        """A session, once the driver has said its port."""
         assert self.process.stdout
         said = (re.search(r"successfully on port ([0-9]+)", line) for line in self.process.stdout)
         port = next((it[1] for it in said if it), None)
         if not port:
-            raise Missing("a chromedriver that starts")
+            raise Unstarted("chromedriver says no port")
         self.base = f"http://127.0.0.1:{port}/session"
         self.base += "/" + self.call("", {"capabilities": {"alwaysMatch": self.wanted(program)}})["sessionId"]
         self.call("/timeouts", {"script": 1000 * SECONDS})
@@ -239,6 +254,10 @@ class Chromium:
             self.call("", method="DELETE")
         except (RuntimeError, OSError):
             pass
+        self.end()
+
+    def end(self) -> None:
+        """Ends the driver, and the browser with it."""
         self.process.terminate()
         self.process.wait(SECONDS)
         drop(self.room)
@@ -266,7 +285,15 @@ class Firefox:
         self.process = subprocess.Popen(
             words, env=environment, stdin=quiet, stdout=quiet, stderr=quiet, preexec_fn=dies_with_parent
         )
-        self.line = self.connected(profile / "MarionetteActivePort")
+        try:
+            self.begin(profile / "MarionetteActivePort")
+        except (Unstarted, RuntimeError, OSError) as why:
+            self.end()
+            raise Unstarted(f"{self.name}: {why}") from None
+
+    def begin(self, port: Path) -> None:
+        """A session."""
+        self.line = self.connected(port)
         self.read()
         self.call("WebDriver:NewSession", {})
         self.call("WebDriver:SetTimeouts", {"script": 1000 * SECONDS})
@@ -287,7 +314,7 @@ class Firefox:
             if port.is_file() and (digits := port.read_text()).isdigit():
                 return socket.create_connection(("127.0.0.1", int(digits)), 2 * SECONDS)
             time.sleep(0.1)
-        raise Missing("a firefox-esr that starts")
+        raise Unstarted(f"it says no port, and has status {self.process.poll()}")
 
     def take(self, size: int) -> bytes:
         """At most so many bytes of the connection, which has not ended."""
@@ -379,3 +406,19 @@ class Firefox:
         self.line.close()
         self.process.wait(SECONDS)
         drop(self.room)
+
+    def end(self) -> None:
+        """Ends a browser that has no session."""
+        self.process.kill()
+        self.process.wait()
+        drop(self.room)
+
+
+def started(kind: Callable[[], Browser]) -> Browser:
+    """A browser. One that doesn't come up is started again: that is no fault of the page, which is opened later."""
+    for _ in range(STARTS - 1):
+        try:
+            return kind()
+        except Unstarted as why:
+            print(f"started again: {why}", flush=True)
+    return kind()
