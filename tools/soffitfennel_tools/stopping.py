@@ -1,4 +1,5 @@
 """The signals that end a tool which has to leave nothing behind."""
+import atexit
 import signal
 import sys
 from collections.abc import Iterator
@@ -20,6 +21,8 @@ def wake_for_signals() -> None:
     (No process that the tool starts inherits the timer.)"""
     signal.signal(signal.SIGALRM, lambda *_: None)
     signal.setitimer(signal.ITIMER_REAL, TICK, TICK)
+    # (Python takes its handlers away before it has ended: then the timer would end the tool by its signal)
+    atexit.register(signal.setitimer, signal.ITIMER_REAL, 0)
 
 
 def exit_when_terminated() -> None:
