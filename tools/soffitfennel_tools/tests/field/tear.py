@@ -4,14 +4,14 @@ from __future__ import annotations
 import json
 import os
 import shutil
-import subprocess
+import time
 import unittest
 from xml.etree import ElementTree
 
 from ...tearing.cutting import Cut, ordered
 
-from .room import TOP
-from .session import DEBIAN_PYTHON, PROGRAMS, Session, needs, needs_pyscard
+from .room import TOP, run
+from .session import DEBIAN_PYTHON, PATIENCE, PROGRAMS, Session, needs, needs_pyscard
 
 PERSONALISE = TOP / "examples" / "pcsc" / "personalise.apdu"
 UPDATE = [DEBIAN_PYTHON, PROGRAMS / "send.py", "002000010831323334FFFFFFFF", "00A4080C045F106F06", "00D60000020102"]
@@ -148,4 +148,8 @@ class NoSession(Tearing):
     def test_no_client_goes_on(self) -> None:
         sleep = f"sleep {100_000 + os.getpid()}"
         self.torn("--patience", "1", self.image("purse"), "--", "sh", "-c", f"{sleep} & {sleep}", status=2)
-        self.assertEqual(subprocess.run(["pgrep", "-f", sleep], capture_output=True, check=False).stdout, b"")
+        # (one that is killed may need a moment to end)
+        end, look = time.monotonic() + PATIENCE, ["pgrep", "-f", sleep]
+        while (left := run(look).stdout) and time.monotonic() < end:
+            time.sleep(0.1)
+        self.assertEqual(left, "")
