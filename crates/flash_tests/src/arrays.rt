@@ -2,15 +2,13 @@
 //! is half full.
 ghost use Rattle.std.specs.Prelude.{◌<◌, ◌≤◌, ◌+◌};
 
-use crate::SimFlash;
-use crate::sim_units::SimUnits;
-use crate::unit_sizes::{Eight, Four, One, Two, UnitSize};
 use flash_board::FlashBoard;
 use flash_device::FlashSocket;
 use flash_log::{FlashLog, format_flash};
-use flash_translation::UnitFlash;
 use nvm_board::{Board, DeviceErr};
+use program_units::UnitFlash;
 use simulated_boards::RamBoard;
+use simulated_chips::{Eight, Four, One, SimFlash, SimUnits, Two, UnitSize};
 use std::alloc::Global;
 use std::test::Fail;
 

@@ -1,10 +1,10 @@
 //! A board of 4,096 pages on a flash: each page is written in each round, in order, while power is lost.
 
-use crate::wide_flash::WideFlash;
 use flash_board::FlashBoard;
 use flash_device::FlashSocket;
 use flash_log::{FlashLog, format_flash};
 use nvm_board::{Board, DeviceErr};
+use simulated_chips::WideFlash;
 use std::test::Fail;
 
 /// The number of pages.

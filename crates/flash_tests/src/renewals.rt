@@ -1,10 +1,10 @@
 //! Renewals of a flash: an old word is nowhere, whatever a power loss or a fault left in a renewal before.
 
-use crate::SimFlash;
 use crate::arrays::powered;
 use flash_board::FlashBoard;
 use flash_log::format_flash;
 use nvm_board::{Board, DeviceErr};
+use simulated_chips::SimFlash;
 use std::test::Fail;
 
 /// The page of the word that is looked for, and pages around it.

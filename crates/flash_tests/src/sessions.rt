@@ -2,12 +2,11 @@
 //! renewal makes a later write of a move long.
 ghost use Rattle.std.specs.Prelude.{◌≡◌};
 
-use crate::sim_flash::SimFlash;
-use crate::wide_flash::WideFlash;
 use flash_board::FlashBoard;
 use flash_device::FlashSocket;
 use flash_log::{FlashLog, format_flash};
 use nvm_board::{Board, DeviceErr};
+use simulated_chips::{SimFlash, WideFlash};
 use std::alloc::Global;
 use std::test::Fail;
 

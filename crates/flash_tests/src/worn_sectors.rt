@@ -1,11 +1,11 @@
 //! Worn sectors of a flash: spare ones take their place, whatever a power loss leaves of that.
 
-use crate::sim_spares::SimSpares;
 use flash_board::FlashBoard;
 use flash_device::FlashSocket;
 use flash_log::{FlashLog, format_flash};
-use flash_translation::SpareFlash;
 use nvm_board::{Board, DeviceErr};
+use simulated_chips::SimSpares;
+use spare_sectors::SpareFlash;
 use std::test::Fail;
 
 /// The pages that are written.

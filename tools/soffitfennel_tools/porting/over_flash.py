@@ -16,7 +16,7 @@ OWN_ON_FLASH = {
     "card_core card_turns",
 }
 # the same over a flash that takes a layer of ours
-OWN_ON_LAYER = OWN_ON_FLASH | {"device_flash": "nvm_board flash_device flash_translation"}
+OWN_ON_LAYER = OWN_ON_FLASH | {"device_flash": "nvm_board flash_device program_units spare_sectors"}
 # what differs there: the flash is made of what the device is
 LAYER_TEXTS = {
     "crates/card_device/src/board.rt": {

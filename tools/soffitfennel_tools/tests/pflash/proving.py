@@ -14,7 +14,7 @@ from ...porting.writing import write_port
 from ..chip.proving import checked
 from .building import Room
 
-BELOW = ("nvm_board", "flash_device", "flash_translation")
+BELOW = ("nvm_board", "flash_device", "program_units", "spare_sectors")
 # what is asked of tools/port, and how many functions are proved then
 FLASHES: dict[str, tuple[dict[str, int], int]] = {
     "the flash of a port": ({}, 15),

@@ -1,0 +1,4 @@
+pub mod UnitFrames
+pub mod UnitStates
+pub mod UnitWords
+pub mod laws

@@ -1,0 +1,7 @@
+-- Laws of the definitions, with their proofs.
+pub mod BlankRuns
+pub mod UnitImages
+pub mod UnitPlaces
+pub mod UnitRuns
+pub mod UnitSharing
+pub mod UnitSteps

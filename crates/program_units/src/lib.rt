@@ -1,0 +1,11 @@
+//! A layer between a chip and the log of `flash_log`: a chip that programs whole units takes the log too.
+#![tactic(auto)]
+
+mod unit_calls;
+mod unit_device;
+mod unit_flash;
+mod unit_frames;
+
+pub use unit_device::{UnitDevice, UnitSocket};
+pub use unit_flash::UnitFlash;
+pub use unit_frames::{FRAME_WORDS, MARK_PLACE, device_words, words_lie_apart};

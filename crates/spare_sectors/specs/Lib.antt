@@ -1,0 +1,4 @@
+pub mod SpareMaps
+pub mod SparePlaces
+pub mod SpareStates
+pub mod laws

@@ -1,0 +1,5 @@
+-- Laws of the definitions, with their proofs.
+pub mod SpareImages
+pub mod SpareParts
+pub mod SpareSteps
+pub mod SpareTurns
