@@ -64,6 +64,11 @@ pub record AreUnits (unit at size : ℕ) : Type 0 where
   pub begins : at % unit ≡ 0
   pub ends : size % unit ≡ 0
 
+-- A run in one frame, with some words.
+pub record IsFrameRun (at size : ℕ) : Type 0 where
+  pub some : 0 < size
+  pub fits : at % FRAME_WORDS + size ≤ FRAME_WORDS
+
 -- The sizes of a unit.
 pub record IsUnit (unit : ℕ) : Type 0 where
   pub is : ((unit ≡ 1) ⊎ (unit ≡ 2)) ⊎ ((unit ≡ 4) ⊎ (unit ≡ 8))

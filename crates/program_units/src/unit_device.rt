@@ -7,8 +7,8 @@ ghost use Rattle.flash_device.specs.FlashBlocks.{steps_of};
 ghost use Rattle.flash_device.specs.FlashCalls.{AreFilled, IsThere, Lights, SameElsewhere};
 ghost use Rattle.flash_device.specs.declared.flash.TheConstants.{BLANK};
 ghost use Rattle.flash_device.specs.declared.layout.TheConstants.{SPARES, STEP_PAGES};
-ghost use Rattle.program_units.specs.UnitFrames.{AreUnits, IsUnit, device_size, frame_count};
-ghost use Rattle.program_units.specs.UnitStates.{UnitState};
+ghost use Rattle.program_units.specs.UnitFrames.{AreUnits, IsFrameRun, IsUnit, device_size, frame_count};
+ghost use Rattle.program_units.specs.UnitStates.{CountsErase, UnitState};
 ghost use Rattle.program_units.specs.declared.unit_frames.TheConstants.{FRAME_WORDS};
 
 use flash_device::PageTable;
@@ -64,10 +64,11 @@ pub trait UnitDevice {
         ensures kept { (state self.new).flash.kept ≡ (state self.old).flash.kept }
         ensures light { Lights (state self.old).flash (state self.new).flash result };
 
-    /// Programs whole units, which are blank and were not programmed since their erase. After an error each word of
-    /// them holds anything. No other word changes.
+    /// Programs whole units of a frame, which are blank and were not programmed since their erase. After an error each
+    /// word of them holds anything. No other word changes.
     fn program(&mut self, at: u32, words: &[u32]) -> Result<(), DeviceErr>
         requires lit { (state self.old).flash.dark ≡ false }
+        requires run { IsFrameRun at (length words.now) }
         requires units { AreUnits UNIT at (length words.now) }
         requires within { at + length words.now ≤ device_size SLOTS }
         requires blank { AreFilled (state self.old).flash.words at (length words.now) BLANK }
@@ -90,8 +91,8 @@ pub trait UnitDevice {
             (FRAME_WORDS * (first_frame (sector + 1) - first_frame sector)) BLANK) }
         ensures elsewhere { SameElsewhere (state self.old).flash.words (FRAME_WORDS * first_frame sector)
             (FRAME_WORDS * (first_frame (sector + 1) - first_frame sector)) (state self.new).flash.words }
-        ensures counted { AreFilled (state self.new).programs (FRAME_WORDS * first_frame sector)
-            (FRAME_WORDS * (first_frame (sector + 1) - first_frame sector)) 0 }
+        ensures counted { CountsErase (state self.old) (state self.new) (FRAME_WORDS * first_frame sector)
+            (FRAME_WORDS * (first_frame (sector + 1) - first_frame sector)) }
         ensures others { SameElsewhere (state self.old).programs (FRAME_WORDS * first_frame sector)
             (FRAME_WORDS * (first_frame (sector + 1) - first_frame sector)) (state self.new).programs }
         ensures work { (state self.new).flash.operations ≤ (state self.old).flash.operations + 1 }

@@ -1,5 +1,5 @@
 -- The state of a simulated device with spare sectors.
-use Rattle.std.specs.Prelude.{false, true}
+use Rattle.std.specs.Prelude.{false, true, []}
 use Rattle.spare_sectors.specs.SpareStates.{SpareState}
 use Rattle.simulated_chips.specs.SimCuts.{cuts_set}
 use Rattle.simulated_chips.specs.declared.sim_spares.SimSpares.{SimSpares}
@@ -15,6 +15,7 @@ sim_spares_state f = record {
     erases = f.erases;
     kept = true;
   };
+  programs = [];
   map = f.map.items;
   begun = f.begun;
   failed = f.failed;

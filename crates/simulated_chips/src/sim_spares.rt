@@ -7,7 +7,7 @@ ghost use Rattle.simulated_chips.specs.declared.sim_spares.TheConstants.{ALL_WOR
 use crate::sim_flash::{after_one, blank_run, garble_run, next_random, put_run};
 use flash_device::{BLANK, PageSlots};
 use nvm_board::DeviceErr;
-use spare_sectors::{SpareDevice, SparePart, SpareSocket};
+use spare_sectors::{MapDevice, SpareDevice, SparePart, SpareSocket};
 use std::alloc::{AllocError, Global};
 
 /// The number of words of a sector.
@@ -84,39 +84,69 @@ impl SimSpares {
     }
 }
 
-impl SpareDevice for SimSpares {
+impl MapDevice for SimSpares {
     ghost use Rattle.simulated_chips.specs.SimSpareStates.{sim_spares_state};
+    ghost use Rattle.std.proofs.Common.{lit<};
+
+    type Map = PageSlots<5>;
+
+    const SECTORS: u16 = 2;
+
+    const SPARES: u16 = SPARES;
+
+    ghost SECTORS = { 2 };
+
+    ghost SPARES = { 2 };
+
+    ghost state = { sim_spares_state };
+
+    fn read_map(&mut self, at: u32) -> Result<u32, DeviceErr> {
+        Ok(self.map[at as usize])
+    }
+
+    fn program_map(&mut self, at: u32, words: &[u32]) -> Result<(), DeviceErr> {
+        self.operations = self.operations.saturating_add(1);
+        self.random = next_random(self.random);
+        let end = ((at as usize + words.len() + ENTRY_WORDS - 1) / ENTRY_WORDS) as u16;
+        self.begun = self.begun.max(end);
+        if self.left == 1 {
+            self.left = 0;
+            garble_run(&mut self.map, at as usize, words.len(), words, self.random);
+            self.dark = true;
+            return Err(DeviceErr::PowerLost);
+        }
+        self.left = after_one(false, self.left);
+        put_run(&mut self.map, at as usize, words);
+        Ok(())
+    }
+
+    ghost unbegun = { λ f. f.free };
+
+    ghost numbers_fit = { lit< tt };
+
+    ghost map_fits = { λ t. t.sized };
+}
+
+impl SpareDevice for SimSpares {
     ghost use Rattle.std.proofs.Common.{lit<, lit≤, refl};
 
     type Table = PageSlots<1024>;
-
-    type Map = PageSlots<5>;
 
     const PAGES: u16 = 1024;
 
     const SLOTS: u16 = 1280;
 
-    const SECTORS: u16 = 2;
-
     const SECTOR_SLOTS: u16 = 640;
 
     const SECTOR_WORDS: u32 = SECTOR_WORDS;
-
-    const SPARES: u16 = SPARES;
 
     ghost PAGES = { 1024 };
 
     ghost SLOTS = { 1280 };
 
-    ghost SECTORS = { 2 };
-
     ghost SECTOR_SLOTS = { 640 };
 
     ghost SECTOR_WORDS = { 12802 };
-
-    ghost SPARES = { 2 };
-
-    ghost state = { sim_spares_state };
 
     fn read(&mut self, at: u32) -> Result<u32, DeviceErr> {
         Ok(self.words[at as usize])
@@ -165,35 +195,11 @@ impl SpareDevice for SimSpares {
         Ok(())
     }
 
-    fn read_map(&mut self, at: u32) -> Result<u32, DeviceErr> {
-        Ok(self.map[at as usize])
-    }
-
-    fn program_map(&mut self, at: u32, words: &[u32]) -> Result<(), DeviceErr> {
-        self.operations = self.operations.saturating_add(1);
-        self.random = next_random(self.random);
-        let end = ((at as usize + words.len() + ENTRY_WORDS - 1) / ENTRY_WORDS) as u16;
-        self.begun = self.begun.max(end);
-        if self.left == 1 {
-            self.left = 0;
-            garble_run(&mut self.map, at as usize, words.len(), words, self.random);
-            self.dark = true;
-            return Err(DeviceErr::PowerLost);
-        }
-        self.left = after_one(false, self.left);
-        put_run(&mut self.map, at as usize, words);
-        Ok(())
-    }
-
     ghost words_fit = { λ f. f.words_fit };
-
-    ghost unbegun = { λ f. f.free };
 
     ghost pages_fit = { (lit≤ tt, lit≤ tt, refl) };
 
     ghost table_fits = { λ t. t.sized };
-
-    ghost map_fits = { λ t. t.sized };
 
     ghost slots_fit = { (lit< tt, lit< tt) };
 

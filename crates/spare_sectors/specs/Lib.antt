@@ -2,3 +2,5 @@ pub mod SpareMaps
 pub mod SparePlaces
 pub mod SpareStates
 pub mod laws
+pub mod MovedSectors
+pub mod SpareFrames

@@ -6,7 +6,7 @@ use Rattle.flash_device.specs.FlashCalls.{FlashState}
 use Rattle.flash_device.specs.FlashLogs.{find}
 use Rattle.flash_device.specs.PageTables.{AreFree, IsPageTable}
 use Rattle.spare_sectors.specs.declared.spare_calls.SectorMap.{SectorMap}
-use Rattle.spare_sectors.specs.declared.spare_device.SparePart.TheVariants.{Entry, Map, Sector}
+use Rattle.spare_sectors.specs.declared.map_device.SparePart.TheVariants.{Entry, Map, Sector}
 use Rattle.spare_sectors.specs.SparePlaces.{lies_in, spare_words}
 use Rattle.spare_sectors.specs.SpareStates.{SpareState}
 

@@ -3,12 +3,14 @@ use Rattle.std.specs.Prelude.{◌≡◌, ℕ, List, Option, Some, Result, IsOk, 
 use Rattle.nvm_board.specs.declared.board.DeviceErr.{DeviceErr}
 use Rattle.nvm_board.specs.declared.board.DeviceErr.TheVariants.{PowerLost, Fault}
 use Rattle.flash_device.specs.FlashCalls.{FlashState}
-use Rattle.spare_sectors.specs.declared.spare_device.SparePart.{SparePart}
+use Rattle.spare_sectors.specs.declared.map_device.SparePart.{SparePart}
 
--- The flash that the device is, with the words of all its sectors; the words of the map; how many entries of the map
--- were begun, which is one more than the last one that a program was begun in; and which part failed last.
+-- The flash that the device is, with the words of all its sectors; how often each word was programmed since an erase
+-- of its sector was begun, if the device programs whole units; the words of the map; how many entries of the map were
+-- begun, which is one more than the last one that a program was begun in; and which part failed last.
 pub record SpareState : Type 0 where
   pub flash : FlashState
+  pub programs : List ℕ
   pub map : List ℕ
   pub begun : ℕ
   pub failed : Option SparePart

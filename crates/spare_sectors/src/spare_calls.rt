@@ -10,8 +10,9 @@ ghost use Rattle.flash_device.specs.declared.flash.TheConstants.{BLANK};
 ghost use Rattle.spare_sectors.specs.SpareMaps.{HasSpares, TakesSpare, TriesSpare, without_spares};
 ghost use Rattle.spare_sectors.specs.SparePlaces.{all_sectors, cell_of, lies_in, part_start, spare_words};
 ghost use Rattle.spare_sectors.specs.SpareStates.{Blames};
-ghost use Rattle.spare_sectors.specs.declared.spare_device.SparePart.TheVariants.{Map, Sector};
+ghost use Rattle.spare_sectors.specs.declared.map_device.SparePart.TheVariants.{Map, Sector};
 
+use crate::map_device::MapDevice;
 use crate::spare_device::SpareDevice;
 use crate::spare_map::{put_entry, scan_map};
 use crate::spare_places::{lies_at, spot_of};
@@ -156,13 +157,14 @@ fn take_spare<D: SpareDevice>(
 }
 
 /// Reads the map, if the table isn't that of the device.
-fn learn<D: SpareDevice>(device: &mut D, known: &mut SectorMap<D::Map>) -> Result<(), DeviceErr>
+pub fn learn<D: MapDevice>(device: &mut D, known: &mut SectorMap<D::Map>) -> Result<(), DeviceErr>
     requires lit { (D.state device.old).flash.dark ≡ false }
     requires spares { HasSpares D.Map.entries D.SECTORS D.SPARES (D.state device.old) known.old }
     ensures spares { HasSpares D.Map.entries D.SECTORS D.SPARES (D.state device.new) known.new }
     ensures ready { OnOk result (known.new.ready ≡ true) }
     ensures absorbed { known.new.absorbed ≡ known.old.absorbed }
     ensures words { (D.state device.new).flash.words ≡ (D.state device.old).flash.words }
+    ensures programs { (D.state device.new).programs ≡ (D.state device.old).programs }
     ensures map { (D.state device.new).map ≡ (D.state device.old).map }
     ensures work { (D.state device.new).flash.operations ≡ (D.state device.old).flash.operations }
     ensures erases { (D.state device.new).flash.erases ≡ (D.state device.old).flash.erases }

@@ -8,9 +8,9 @@ ghost use Rattle.flash_device.specs.PageTables.{AreFree, IsPageTable};
 ghost use Rattle.flash_device.specs.declared.flash.TheConstants.{BLANK};
 ghost use Rattle.spare_sectors.specs.SpareMaps.{KnowsMap, MovesOnly};
 ghost use Rattle.spare_sectors.specs.SpareStates.{Blames};
-ghost use Rattle.spare_sectors.specs.declared.spare_device.SparePart.TheVariants.{Entry, Map};
+ghost use Rattle.spare_sectors.specs.declared.map_device.SparePart.TheVariants.{Entry, Map};
 
-use crate::spare_device::SpareDevice;
+use crate::map_device::MapDevice;
 use flash_device::{BLANK, PageTable, RECORD_WORDS, SLOT_WORDS};
 use nvm_board::DeviceErr;
 
@@ -24,7 +24,7 @@ const SECOND_MARK: u32 = 0x6974_7321;
 const ENTRY_NUMBER: u32 = 16;
 
 /// The address of an entry.
-fn entry_at<D: SpareDevice>(entry: u16) -> u32
+fn entry_at<D: MapDevice>(entry: u16) -> u32
     requires { entry < D.SPARES }
     ensures is { result ≡ slot_of 0 entry }
     ensures within { result + 20 ≤ 20 * D.SPARES }
@@ -33,11 +33,12 @@ fn entry_at<D: SpareDevice>(entry: u16) -> u32
 }
 
 /// Returns true if an entry has its mark.
-fn is_marked<D: SpareDevice>(device: &mut D, at: u32) -> Result<bool, DeviceErr>
+fn is_marked<D: MapDevice>(device: &mut D, at: u32) -> Result<bool, DeviceErr>
     requires lit { (D.state device.old).flash.dark ≡ false }
     requires within { at + 2 ≤ 20 * D.SPARES }
     ensures marked { IfOk result (λ b. b ≡ has_mark (D.state device.old).map at) }
     ensures words { (D.state device.new).flash.words ≡ (D.state device.old).flash.words }
+    ensures programs { (D.state device.new).programs ≡ (D.state device.old).programs }
     ensures map { (D.state device.new).map ≡ (D.state device.old).map }
     ensures work { (D.state device.new).flash.operations ≡ (D.state device.old).flash.operations }
     ensures erases { (D.state device.new).flash.erases ≡ (D.state device.old).flash.erases }
@@ -52,13 +53,14 @@ fn is_marked<D: SpareDevice>(device: &mut D, at: u32) -> Result<bool, DeviceErr>
 }
 
 /// Returns true if an entry is blank.
-fn is_blank<D: SpareDevice>(device: &mut D, at: u32) -> Result<bool, DeviceErr>
+fn is_blank<D: MapDevice>(device: &mut D, at: u32) -> Result<bool, DeviceErr>
     requires lit { (D.state device.old).flash.dark ≡ false }
     requires within { at + 20 ≤ 20 * D.SPARES }
     ensures blank { IfOk result (λ b. b ≡ true → AreFilled (D.state device.old).map at 20 BLANK) }
     ensures used { IfOk result (λ b. b ≡ false
         → (k : ℕ) × ((k < 20) × (slice_index (D.state device.old).map (at + k) ≢ BLANK))) }
     ensures words { (D.state device.new).flash.words ≡ (D.state device.old).flash.words }
+    ensures programs { (D.state device.new).programs ≡ (D.state device.old).programs }
     ensures map { (D.state device.new).map ≡ (D.state device.old).map }
     ensures work { (D.state device.new).flash.operations ≡ (D.state device.old).flash.operations }
     ensures erases { (D.state device.new).flash.erases ≡ (D.state device.old).flash.erases }
@@ -76,7 +78,7 @@ fn is_blank<D: SpareDevice>(device: &mut D, at: u32) -> Result<bool, DeviceErr>
 }
 
 /// Takes one entry more into the table, and returns the first entry that is free.
-fn scan_entry<D: SpareDevice>(
+fn scan_entry<D: MapDevice>(
     device: &mut D,
     entry: u16,
     next: u16,
@@ -92,6 +94,7 @@ fn scan_entry<D: SpareDevice>(
     ensures free { IfOk result (λ n. AreFree (D.state device.old).map 0 n (entry + 1)) }
     ensures most { IfOk result (λ n. n ≤ (D.state device.old).begun) }
     ensures words { (D.state device.new).flash.words ≡ (D.state device.old).flash.words }
+    ensures programs { (D.state device.new).programs ≡ (D.state device.old).programs }
     ensures map { (D.state device.new).map ≡ (D.state device.old).map }
     ensures work { (D.state device.new).flash.operations ≡ (D.state device.old).flash.operations }
     ensures erases { (D.state device.new).flash.erases ≡ (D.state device.old).flash.erases }
@@ -115,12 +118,13 @@ fn scan_entry<D: SpareDevice>(
 }
 
 /// Finds the spare of each sector, and returns the first entry that is free, with all that follow it.
-pub fn scan_map<D: SpareDevice>(device: &mut D, table: &mut D::Map) -> Result<u16, DeviceErr>
+pub fn scan_map<D: MapDevice>(device: &mut D, table: &mut D::Map) -> Result<u16, DeviceErr>
     requires lit { (D.state device.old).flash.dark ≡ false }
     ensures known { IfOk result (λ n. KnowsMap D.SECTORS D.SPARES (D.state device.old).map (D.Map.entries table.new)
         n) }
     ensures most { IfOk result (λ n. n ≤ (D.state device.old).begun) }
     ensures words { (D.state device.new).flash.words ≡ (D.state device.old).flash.words }
+    ensures programs { (D.state device.new).programs ≡ (D.state device.old).programs }
     ensures map { (D.state device.new).map ≡ (D.state device.old).map }
     ensures work { (D.state device.new).flash.operations ≡ (D.state device.old).flash.operations }
     ensures erases { (D.state device.new).flash.erases ≡ (D.state device.old).flash.erases }
@@ -137,16 +141,16 @@ pub fn scan_map<D: SpareDevice>(device: &mut D, table: &mut D::Map) -> Result<u1
     Ok(next)
 }
 
-/// Names a sector in a free entry of the map. At every exit each other sector lies where it lay.
-pub fn put_entry<D: SpareDevice>(device: &mut D, entry: u16, sector: u16) -> Result<(), DeviceErr>
+/// Puts the number of a sector into a free entry of the map.
+pub fn put_number<D: MapDevice>(device: &mut D, entry: u16, sector: u16) -> Result<(), DeviceErr>
     requires lit { (D.state device.old).flash.dark ≡ false }
     requires below { entry < D.SPARES }
     requires free { AreFree (D.state device.old).map 0 entry D.SPARES }
-    ensures moves { MovesOnly D.SPARES (D.state device.old).map sector (D.state device.new).map }
-    ensures done { OnOk result (find (D.state device.new).map 0 D.SPARES sector ≡ entry + 1) }
-    ensures free { AreFree (D.state device.new).map 0 (entry + 1) D.SPARES }
+    ensures names { OnOk result (slice_index (D.state device.new).map (slot_of 0 entry + 16) ≡ sector) }
+    ensures number { SameElsewhere (D.state device.old).map (slot_of 0 entry + 16) 1 (D.state device.new).map }
     ensures words { (D.state device.new).flash.words ≡ (D.state device.old).flash.words }
-    ensures work { (D.state device.new).flash.operations ≤ (D.state device.old).flash.operations + 2 }
+    ensures programs { (D.state device.new).programs ≡ (D.state device.old).programs }
+    ensures work { (D.state device.new).flash.operations ≤ (D.state device.old).flash.operations + 1 }
     ensures erases { (D.state device.new).flash.erases ≡ (D.state device.old).flash.erases }
     ensures begun { (D.state device.new).begun ≡ max (D.state device.old).begun (entry + 1) }
     ensures blames { Blames (Entry entry) (D.state device.old) (D.state device.new) result }
@@ -154,6 +158,46 @@ pub fn put_entry<D: SpareDevice>(device: &mut D, entry: u16, sector: u16) -> Res
 {
     let at = entry_at::<D>(entry);
     device.program_map(at + ENTRY_NUMBER, &[u32::from(sector)])?;
+    Ok(())
+}
+
+/// Puts the mark of an entry behind its number, from where on the entry counts.
+pub fn put_mark<D: MapDevice>(device: &mut D, entry: u16) -> Result<(), DeviceErr>
+    requires lit { (D.state device.old).flash.dark ≡ false }
+    requires below { entry < D.SPARES }
+    requires blank { AreFilled (D.state device.old).map (slot_of 0 entry + 18) 2 BLANK }
+    ensures marked { OnOk result (has_mark (D.state device.new).map (slot_of 0 entry + 18) ≡ true) }
+    ensures mark { SameElsewhere (D.state device.old).map (slot_of 0 entry + 18) 2 (D.state device.new).map }
+    ensures words { (D.state device.new).flash.words ≡ (D.state device.old).flash.words }
+    ensures programs { (D.state device.new).programs ≡ (D.state device.old).programs }
+    ensures work { (D.state device.new).flash.operations ≤ (D.state device.old).flash.operations + 1 }
+    ensures erases { (D.state device.new).flash.erases ≡ (D.state device.old).flash.erases }
+    ensures begun { (D.state device.new).begun ≡ max (D.state device.old).begun (entry + 1) }
+    ensures blames { Blames (Entry entry) (D.state device.old) (D.state device.new) result }
+    ensures light { Lights (D.state device.old).flash (D.state device.new).flash result }
+{
+    let at = entry_at::<D>(entry);
     device.program_map(at + RECORD_WORDS, &[FIRST_MARK, SECOND_MARK])?;
+    Ok(())
+}
+
+/// Names a sector in a free entry of the map. At every exit each other sector lies where it lay.
+pub fn put_entry<D: MapDevice>(device: &mut D, entry: u16, sector: u16) -> Result<(), DeviceErr>
+    requires lit { (D.state device.old).flash.dark ≡ false }
+    requires below { entry < D.SPARES }
+    requires free { AreFree (D.state device.old).map 0 entry D.SPARES }
+    ensures moves { MovesOnly D.SPARES (D.state device.old).map sector (D.state device.new).map }
+    ensures done { OnOk result (find (D.state device.new).map 0 D.SPARES sector ≡ entry + 1) }
+    ensures free { AreFree (D.state device.new).map 0 (entry + 1) D.SPARES }
+    ensures words { (D.state device.new).flash.words ≡ (D.state device.old).flash.words }
+    ensures programs { (D.state device.new).programs ≡ (D.state device.old).programs }
+    ensures work { (D.state device.new).flash.operations ≤ (D.state device.old).flash.operations + 2 }
+    ensures erases { (D.state device.new).flash.erases ≡ (D.state device.old).flash.erases }
+    ensures begun { (D.state device.new).begun ≡ max (D.state device.old).begun (entry + 1) }
+    ensures blames { Blames (Entry entry) (D.state device.old) (D.state device.new) result }
+    ensures light { Lights (D.state device.old).flash (D.state device.new).flash result }
+{
+    put_number(device, entry, sector)?;
+    put_mark(device, entry)?;
     Ok(())
 }

@@ -3,6 +3,7 @@ ghost use Rattle.std.specs.Prelude.{◌≡◌, ◌<◌, ◌≤◌, ◌+◌, ◌-
 ghost use Rattle.flash_device.specs.FlashBlocks.{area_size, flash_size};
 ghost use Rattle.spare_sectors.specs.SparePlaces.{all_sectors, lies_by, part_in, part_start, sector_of};
 
+use crate::map_device::MapDevice;
 use crate::spare_device::SpareDevice;
 use flash_device::{PageTable, SLOT_WORDS};
 
@@ -76,7 +77,7 @@ pub fn start_of<D: SpareDevice>(sector: u16) -> u32
 }
 
 /// The sector of the device that has a sector of the log, by the table.
-pub fn lies_at<D: SpareDevice>(table: &D::Map, sector: u16) -> u16
+pub fn lies_at<D: MapDevice>(table: &D::Map, sector: u16) -> u16
     requires sector { sector ≤ 2 * D.SECTORS }
     requires spare { slice_index (D.Map.entries table.now) sector ≤ D.SPARES }
     ensures is { result ≡ lies_by D.SECTORS (slice_index (D.Map.entries table.now) sector) sector }

@@ -7,9 +7,9 @@ use Rattle.flash_device.specs.declared.flash.TheConstants.{BLANK}
 use Rattle.flash_device.specs.FlashBlocks.{flash_size}
 use Rattle.flash_device.specs.FlashCalls.{AreFilled, IsThere, SameElsewhere}
 use Rattle.flash_device.specs.ProgrammedRuns.{IsProgramRun}
-use Rattle.program_units.specs.UnitFrames.{AreUnits, IsFramePart, IsUnit, device_size, frame_of, frame_start}
-use Rattle.program_units.specs.UnitFrames.{place_in, rank_of, span_of}
-use Rattle.program_units.specs.UnitStates.{UnitState}
+use Rattle.program_units.specs.UnitFrames.{AreUnits, IsFramePart, IsFrameRun, IsUnit, device_size, frame_of}
+use Rattle.program_units.specs.UnitFrames.{frame_start, place_in, rank_of, span_of}
+use Rattle.program_units.specs.UnitStates.{CountsErase, UnitState}
 use Rattle.program_units.specs.UnitWords.{HasFreshUnits, LooksBlank, frame_word, rest_at, unit_words}
 use Rattle.program_units.specs.laws.BlankRuns.{frame_word_there}
 use Rattle.program_units.specs.laws.UnitImages.{index-unit_words, no-unit_word}
@@ -345,6 +345,18 @@ fresh_same unit old new fresh words programs = record {
       (fresh.each f r n part (subst (λ (m : List ℕ). LooksBlank unit m f r n) words looks));
 }
 
+-- an erase, begun or not
+pub fresh_counted : (unit : ℕ) (old new : UnitState) (from end : ℕ) → unit ≤ 8 → from ≤ end → HasFreshUnits unit old
+    → SameElsewhere old.flash.words (32 * from) (32 * (end - from)) new.flash.words
+    → CountsErase old new (32 * from) (32 * (end - from))
+    → SameElsewhere old.programs (32 * from) (32 * (end - from)) new.programs → HasFreshUnits unit new
+fresh_counted unit old new from end most rise fresh words counted programs = ⊎_elim
+    (λ (begun : AreFilled new.programs (32 * from) (32 * (end - from)) 0).
+    fresh_erased unit old new from end most rise fresh words begun programs)
+    (λ (none : (new.flash.words ≡ old.flash.words) × (new.programs ≡ old.programs)).
+    fresh_same unit old new fresh none.0 none.1)
+    counted.is
+
 -- where a run begins
 pub run_begins : (slots at size frame rank : ℕ) → RunIn slots at size frame rank → 0 < size
     → place_in (frame_of slots at) (rank_of slots at) ≡ place_in frame rank
@@ -431,6 +443,18 @@ module _ (unit slots at size place many : ℕ) (is : IsPlacedRun unit slots at s
       subst (λ (p : ℕ). AreUnits unit p many) (sym is.place_is)
       (subst (λ (k : ℕ). AreUnits unit (place_in is.frame is.rank) k) (sym is.many_is)
       (part_units unit is.frame is.rank size fits is.run.part))
+
+  pub run_in_frame : 0 < size → IsFrameRun place many
+  run_in_frame some =
+      let span = part_span unit is.frame is.rank size is.most is.run.part in
+      let from = span.from in
+      let last = span.last in
+      let few = span.few in
+      let there = is.place_is in
+      let taken = is.many_is in record {
+        some = omega (arith, few, some, taken);
+        fits = omega (arith, from, last, few, some, there, taken);
+      }
 
   pub run_within : place + many ≤ device_size slots
   run_within =

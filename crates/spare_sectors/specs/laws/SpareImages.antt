@@ -23,7 +23,7 @@ blocks_below size p q x lt within =
     let more = mul-suc size p in let up : suc p ≤ q = omega (arith, lt) in
     let le = mul-le-mul_left size up in omega (arith, more, le, within)
 
-blocks_apart : (size p q x : ℕ) → p ≢ q → size * p ≤ x → x < size * p + size
+pub blocks_apart : (size p q x : ℕ) → p ≢ q → size * p ≤ x → x < size * p + size
     → (x < size * q) ⊎ (size * q + size ≤ x)
 blocks_apart size p q x other low high = ⊎_elim
     (λ (e : p ≡ q). absurd (other e))

@@ -45,7 +45,7 @@ module _ (sectors spares : ℕ) (map table : List ℕ) (index : IsPageTable (2 *
 
 module _ (sectors spares : ℕ) (map : List ℕ) where
   -- no sector lies in a spare whose entry is free
-  free_apart : (entry t : ℕ) → AreFree map 0 entry spares → entry < spares → t ≤ 2 * sectors
+  pub free_apart : (entry t : ℕ) → AreFree map 0 entry spares → entry < spares → t ≤ 2 * sectors
       → lies_in sectors spares map t ≢ 2 * sectors + 1 + entry
   free_apart entry t are below le = by_found (find map 0 spares t) refl
     where
@@ -59,10 +59,15 @@ module _ (sectors spares : ℕ) (map : List ℕ) where
           (blank_slot map (slot_of 0 entry) (are.free entry (omega arith) below)) in
           absurd (true≢false (sym (find-tells map 0 spares t k e).held ∙ holds_none map 0 k t none))
 
-  lies_stays : (after : List ℕ) (s t : ℕ) → MovesOnly spares map s after → t ≢ s
+  pub lies_stays : (after : List ℕ) (s t : ℕ) → MovesOnly spares map s after → t ≢ s
       → lies_in sectors spares after t ≡ lies_in sectors spares map t
   unfolding lies_in
   lies_stays after s t moves other = ap (λ (f : ℕ). lies_by sectors f t) (moves.others t other)
+
+  pub lies_same : (after : List ℕ) (s : ℕ) → find after 0 spares s ≡ find map 0 spares s
+      → lies_in sectors spares after s ≡ lies_in sectors spares map s
+  unfolding lies_in
+  lies_same after s found = ap (λ (f : ℕ). lies_by sectors f s) found
 
   pub lies_taken : (s entry : ℕ) → find map 0 spares s ≡ entry + 1 → lies_in sectors spares map s ≡ 2 * sectors + 1 +
       entry

@@ -1,5 +1,5 @@
 -- What an entry changes of the map: at most the sector that it names.
-use Rattle.std.specs.Prelude.{◌≡◌, ◌≢◌, ◌<◌, ◌≤◌, ◌+◌, ◌*◌, ◌/◌, ℕ, suc, Bool, true, false, List}
+use Rattle.std.specs.Prelude.{◌≡◌, ◌≢◌, ◌⊎◌, ◌<◌, ◌≤◌, ◌+◌, ◌*◌, ◌/◌, ℕ, suc, Bool, true, false, List}
 use Rattle.std.specs.Prelude.{◌&&◌, max, nat_eq, slice_index}
 use Rattle.std.proofs.Common.{refl, sym, ◌∙◌, ap₂, inl, inr, subst, ⊎_elim, arith, true≢false}
 use Rattle.std.proofs.lemmas.Bool.{cases_lt, eq-eqb, ne_eqb}
@@ -72,6 +72,11 @@ module _ (spares entry sector at : ℕ) (m mid : List ℕ) (below : entry < spar
   pub number_moves : MovesOnly spares m sector mid
   number_moves = unmarked_moves spares entry sector m mid below are number_within no_mark_yet
 
+  -- and each sector lies where it lay
+  pub number_keeps : (s : ℕ) → find mid 0 spares s ≡ find m 0 spares s
+  number_keeps s = find_kept m mid 0 entry number_within
+      (free spares entry sector m mid below are number_within) spares s (holds_none mid 0 entry s no_mark_yet)
+
   pub number_leaves : AreFree mid 0 (entry + 1) spares
   number_leaves = entries_free spares entry sector m mid below are number_within
 
@@ -92,6 +97,18 @@ module _ (spares entry sector at : ℕ) (m mid : List ℕ) (below : entry < spar
 
       pub mark_moves : MovesOnly spares m sector after
       mark_moves = named_moves spares entry sector m after below are entry_within number_stays
+
+      -- with the mark, or with what is like it, the sector lies in the spare, and else where it lay
+      pub mark_either : (find after 0 spares sector ≡ find m 0 spares sector)
+          ⊎ (find after 0 spares sector ≡ entry + 1)
+      mark_either = by_mark (is_marked after (slot_of 0 entry + 18)) refl
+        where
+          by_mark : (b : Bool) → is_marked after (slot_of 0 entry + 18) ≡ b
+              → (find after 0 spares sector ≡ find m 0 spares sector) ⊎ (find after 0 spares sector ≡ entry + 1)
+          by_mark true e = inr (entry_found spares entry sector m after below are entry_within e number_stays)
+          by_mark false e = inl (find_kept m after 0 entry entry_within
+              (free spares entry sector m after below are entry_within) spares sector (holds_none after 0 entry sector
+              e))
 
       pub mark_leaves : AreFree after 0 (entry + 1) spares
       mark_leaves = entries_free spares entry sector m after below are entry_within

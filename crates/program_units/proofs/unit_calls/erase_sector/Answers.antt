@@ -1,6 +1,6 @@
 use Rattle.std.proofs.Common.{◌<◌, ◌+◌, arith}
 use Rattle.program_units.specs.laws.UnitRuns.{unit_most}
-use Rattle.program_units.specs.laws.UnitSteps.{frames_blank, frames_elsewhere, fresh_erased}
+use Rattle.program_units.specs.laws.UnitSteps.{frames_blank, frames_elsewhere, fresh_counted}
 use Rattle.program_units.proofs.unit_calls.erase_sector.Goals as goal
 
 pub returns-in_err-erase-clause-elsewhere : goal.returns-in_err-erase-clause-elsewhere
@@ -14,7 +14,7 @@ returns-in_err-erase-clause-elsewhere g c =
 
 pub returns-in_err-erase-clause-fresh : goal.returns-in_err-erase-clause-fresh
 returns-in_err-erase-clause-fresh g c =
-    fresh_erased g.D.UnitDevice.UNIT (g.D.UnitDevice.state c.args.device.now) (g.D.UnitDevice.state c.erase.new.self)
+    fresh_counted g.D.UnitDevice.UNIT (g.D.UnitDevice.state c.args.device.now) (g.D.UnitDevice.state c.erase.new.self)
     (g.D.UnitDevice.first_frame c.args.sector) (g.D.UnitDevice.first_frame (c.args.sector + 1))
     (unit_most _ g.met.D.UnitDevice.unit_fits).1 (g.met.D.UnitDevice.sectors_rise c.args.sector) c.requires.fresh
     c.erase.ensures.elsewhere c.erase.ensures.counted c.erase.ensures.others
@@ -39,7 +39,7 @@ returns-clause-elsewhere g c =
 
 pub returns-clause-fresh : goal.returns-clause-fresh
 returns-clause-fresh g c =
-    fresh_erased g.D.UnitDevice.UNIT (g.D.UnitDevice.state c.args.device.now) (g.D.UnitDevice.state c.erase.new.self)
+    fresh_counted g.D.UnitDevice.UNIT (g.D.UnitDevice.state c.args.device.now) (g.D.UnitDevice.state c.erase.new.self)
     (g.D.UnitDevice.first_frame c.args.sector) (g.D.UnitDevice.first_frame (c.args.sector + 1))
     (unit_most _ g.met.D.UnitDevice.unit_fits).1 (g.met.D.UnitDevice.sectors_rise c.args.sector) c.requires.fresh
     c.erase.ensures.elsewhere c.erase.ensures.counted c.erase.ensures.others

@@ -3,10 +3,36 @@ use Rattle.std.proofs.Common.{◌≡◌, ◌<◌, ◌≤◌, ◌+◌, ◌-◌, �
 use Rattle.std.proofs.lemmas.List.{length-take-le}
 use Rattle.flash_device.specs.declared.flash.TheConstants.{BLANK}
 use Rattle.flash_device.specs.FlashCalls.{AreFilled, SameElsewhere}
-use Rattle.program_units.specs.UnitFrames.{AreUnits, device_size}
+use Rattle.program_units.specs.UnitFrames.{AreUnits, IsFrameRun, device_size}
 use Rattle.program_units.specs.laws.UnitSteps.{done_is_fresh, failed_is_fresh, placed_run, run_is_blank}
-use Rattle.program_units.specs.laws.UnitSteps.{run_is_fresh, run_is_there, run_keeps_others, run_units, run_within}
+use Rattle.program_units.specs.laws.UnitSteps.{run_in_frame, run_is_fresh, run_is_there, run_keeps_others}
+use Rattle.program_units.specs.laws.UnitSteps.{run_units}
+use Rattle.program_units.specs.laws.UnitSteps.{run_within}
 use Rattle.program_units.proofs.unit_calls.program_run.Goals as goal
+
+pub program-requires-clause-run : goal.program-requires-clause-run
+program-requires-clause-run g c =
+    let unit = g.D.UnitDevice.UNIT in
+    let slots = g.D.UnitDevice.SLOTS in
+    let old = g.D.UnitDevice.state c.args.device.now in
+    let at = c.args.at in
+    let place = c.place_at-place.result in
+    let words = c.args.words.now in
+    let whole = c.filled_up-whole.result in
+    let many = length words - 2 + c.pair_words.result in
+    let most : many ≤ length whole =
+    let few = c.requires.size in
+    let pair = c.pair_words.ensures.few in
+    let all = c.filled_up-whole.ensures.size in
+    omega (arith, few.0, few.1, pair, all) in
+    let taken : length (take many whole) ≡ many = length-take-le many whole most in
+    let is : many ≡ length words - 2 + max 2 unit = omega (arith, c.pair_words.ensures.is) in
+    let some : 0 < length words = omega (arith, c.requires.size.0) in
+    let run = placed_run unit slots at (length words) c.spot_of.result.frame c.spot_of.result.rank place many
+    g.met.D.UnitDevice.unit_fits c.requires.run some c.spot_of.ensures.frame c.spot_of.ensures.rank
+    c.place_at-place.ensures.is is in
+    subst (λ (k : ℕ). IsFrameRun place k) (sym taken)
+    (run_in_frame unit slots at (length words) place many run some)
 
 pub program-requires-clause-units : goal.program-requires-clause-units
 program-requires-clause-units g c =

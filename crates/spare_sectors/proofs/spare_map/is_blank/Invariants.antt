@@ -5,8 +5,9 @@ use Rattle.spare_sectors.proofs.spare_map.is_blank.Given as goal
 
 abbrev pub invariant-loop-k : goal.invariant-loop-k
 invariant-loop-k g l =
-    let old = g.D.SpareDevice.state l.initial.device in let new = g.D.SpareDevice.state l.device in record {
+    let old = g.D.MapDevice.state l.initial.device in let new = g.D.MapDevice.state l.device in record {
       words : new.flash.words ≡ old.flash.words;
+      programs : new.programs ≡ old.programs;
       map : new.map ≡ old.map;
       work : new.flash.operations ≡ old.flash.operations;
       erases : new.flash.erases ≡ old.flash.erases;

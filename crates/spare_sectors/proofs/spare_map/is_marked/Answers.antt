@@ -8,7 +8,7 @@ use Rattle.spare_sectors.proofs.spare_map.is_marked.Goals as goal
 pub returns-then-first-eq-FIRST_MARK-clause-marked : goal.returns-then-first-eq-FIRST_MARK-clause-marked
 unfolding has_mark
 returns-then-first-eq-FIRST_MARK-clause-marked g c =
-    let m = (g.D.SpareDevice.state c.args.device.now).map in
+    let m = (g.D.MapDevice.state c.args.device.now).map in
     let at = c.args.at in
     let first = eq-eqb (slice_index m at) FIRST_MARK (sym c.in_ok-first.ensures.word ∙ c.if-first-eq-FIRST_MARK.true)
     in
@@ -20,7 +20,7 @@ returns-then-first-eq-FIRST_MARK-clause-marked g c =
 pub returns-else-first-eq-FIRST_MARK-clause-marked : goal.returns-else-first-eq-FIRST_MARK-clause-marked
 unfolding has_mark
 returns-else-first-eq-FIRST_MARK-clause-marked g c =
-    let m = (g.D.SpareDevice.state c.args.device.now).map in
+    let m = (g.D.MapDevice.state c.args.device.now).map in
     let at = c.args.at in
     let first =
     ne_eqb (slice_index m at) FIRST_MARK (λ e. c.if-first-eq-FIRST_MARK.false (c.in_ok-first.ensures.word ∙ e)) in

@@ -11,8 +11,8 @@ use Rattle.spare_sectors.proofs.spare_map.scan_entry.Goals.{then-number-from, el
 
 pub returns-then-branch-clause-index : goal.returns-then-branch-clause-index
 returns-then-branch-clause-index g c =
-    let pages = 2 * g.D.SpareDevice.SECTORS + 1 in
-    let m = (g.D.SpareDevice.state c.args.device.now).map in
+    let pages = 2 * g.D.MapDevice.SECTORS + 1 in
+    let m = (g.D.MapDevice.state c.args.device.now).map in
     let entry = c.args.entry in
     let marked : is_marked m (slot_of 0 entry + 18) ≡ true =
     ap (λ (k : ℕ). is_marked m (k + 18)) (sym c.entry_at-at.ensures.is) ∙ sym c.in_ok-is_marked.ensures.marked
@@ -26,7 +26,7 @@ returns-then-branch-clause-index g c =
     elim c.if-number-from.branch [
       | then-number-from w ↦
           let small : c.in_ok-number.number < pages = omega (arith, w.if-number-from.true, count) in
-          let all = g.met.D.SpareDevice.map_fits c.args.table.now in
+          let all = g.met.D.MapDevice.map_fits c.args.table.now in
           subst (λ (t : List ℕ). IsPageTable pages m 0 (entry + 1) t) (λ i. entries ((sym w.table-is) i))
           (subst (λ (t : List ℕ). IsPageTable pages m 0 (entry + 1) t) (sym w.set_entry.ensures)
           (index_put pages m (entries c.args.table.now) 0 entry c.in_ok-number.number c.requires.index
@@ -42,26 +42,26 @@ returns-then-branch-clause-index g c =
 
 pub returns-then-branch-2-clause-index : goal.returns-then-branch-2-clause-index
 returns-then-branch-2-clause-index g c =
-    let m = (g.D.SpareDevice.state c.args.device.now).map in
+    let m = (g.D.MapDevice.state c.args.device.now).map in
     let free : is_marked m (slot_of 0 c.args.entry + 18) ≡ false =
     ap (λ (k : ℕ). is_marked m (k + 18)) (sym c.entry_at-at.ensures.is) ∙ sym c.in_ok-is_marked.ensures.marked
     ∙ c.if-branch.false in
-    index_past (2 * g.D.SpareDevice.SECTORS + 1) m (g.D.Map.PageTable.entries c.args.table.now) 0 c.args.entry
+    index_past (2 * g.D.MapDevice.SECTORS + 1) m (g.D.Map.PageTable.entries c.args.table.now) 0 c.args.entry
     c.requires.index free
 
 pub returns-clause-index : goal.returns-clause-index
 returns-clause-index g c =
-    let m = (g.D.SpareDevice.state c.args.device.now).map in
+    let m = (g.D.MapDevice.state c.args.device.now).map in
     let free : is_marked m (slot_of 0 c.args.entry + 18) ≡ false =
     ap (λ (k : ℕ). is_marked m (k + 18)) (sym c.entry_at-at.ensures.is) ∙ sym c.in_ok-is_marked.ensures.marked
     ∙ c.if-branch.false in
-    index_past (2 * g.D.SpareDevice.SECTORS + 1) m (g.D.Map.PageTable.entries c.args.table.now) 0 c.args.entry
+    index_past (2 * g.D.MapDevice.SECTORS + 1) m (g.D.Map.PageTable.entries c.args.table.now) 0 c.args.entry
     c.requires.index free
 
 pub returns-then-branch-2-clause-free : goal.returns-then-branch-2-clause-free
 returns-then-branch-2-clause-free g c =
-    let m = (g.D.SpareDevice.state c.args.device.now).map in
-    let mid = (g.D.SpareDevice.state c.is_marked.new.device).map in
+    let m = (g.D.MapDevice.state c.args.device.now).map in
+    let mid = (g.D.MapDevice.state c.is_marked.new.device).map in
     let blank : AreFilled mid c.entry_at-at.result 20 BLANK = c.in_ok-is_blank.ensures.blank c.if-branch-2.true in
     free_more m 0 c.args.next c.args.entry c.requires.free
     (subst (λ (k : ℕ). AreFilled m k 20 BLANK) c.entry_at-at.ensures.is
@@ -69,20 +69,20 @@ returns-then-branch-2-clause-free g c =
 
 pub returns-then-branch-clause-most : goal.returns-then-branch-clause-most
 returns-then-branch-clause-most g c =
-    let old = g.D.SpareDevice.state c.args.device.now in
+    let old = g.D.MapDevice.state c.args.device.now in
     let marked : is_marked old.map (slot_of 0 c.args.entry + 18) ≡ true =
     ap (λ (k : ℕ). is_marked old.map (k + 18)) (sym c.entry_at-at.ensures.is) ∙ sym c.in_ok-is_marked.ensures.marked
     ∙ c.if-branch.true in
-    marked_begun g.D.SpareDevice.SPARES old.begun c.args.entry old.map
-    (g.met.D.SpareDevice.unbegun c.args.device.now) c.requires.below marked
+    marked_begun g.D.MapDevice.SPARES old.begun c.args.entry old.map
+    (g.met.D.MapDevice.unbegun c.args.device.now) c.requires.below marked
 
 pub returns-clause-most : goal.returns-clause-most
 returns-clause-most g c =
-    let old = g.D.SpareDevice.state c.args.device.now in
-    let mid = g.D.SpareDevice.state c.is_marked.new.device in
+    let old = g.D.MapDevice.state c.args.device.now in
+    let mid = g.D.MapDevice.state c.is_marked.new.device in
     let used = c.in_ok-is_blank.ensures.used c.if-branch-2.false in
     let other : slice_index old.map (slot_of 0 c.args.entry + used.0) ≢ BLANK =
     λ is. used.1.1 (ap (λ (l : List ℕ). slice_index l (c.entry_at-at.result + used.0)) c.is_marked.ensures.map
     ∙ ap (λ (k : ℕ). slice_index old.map (k + used.0)) c.entry_at-at.ensures.is ∙ is) in
-    used_begun g.D.SpareDevice.SPARES old.begun c.args.entry used.0 old.map
-    (g.met.D.SpareDevice.unbegun c.args.device.now) c.requires.below used.1.0 other
+    used_begun g.D.MapDevice.SPARES old.begun c.args.entry used.0 old.map
+    (g.met.D.MapDevice.unbegun c.args.device.now) c.requires.below used.1.0 other

@@ -4,9 +4,10 @@ use Rattle.spare_sectors.proofs.spare_map.scan_map.Goals as goal
 
 pub loop-entry-init : goal.loop-entry-init
 loop-entry-init g c =
-    let m = (g.D.SpareDevice.state c.args.device.now).map in
+    let m = (g.D.MapDevice.state c.args.device.now).map in
     record {
       words = refl;
+      programs = refl;
       map = refl;
       work = refl;
       erases = refl;
@@ -15,7 +16,7 @@ loop-entry-init g c =
       lit = c.requires.lit;
       steady = record { lit = c.requires.lit; due = refl; faults = refl };
       index = record {
-        each = λ p lt. let all = g.met.D.SpareDevice.map_fits c.blank.result in
+        each = λ p lt. let all = g.met.D.MapDevice.map_fits c.blank.result in
             c.blank.ensures p (omega (arith, lt, all)) ∙ sym (find_zero m 0 p);
       };
       free = free_none m 0 0;

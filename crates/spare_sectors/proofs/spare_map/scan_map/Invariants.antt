@@ -5,8 +5,9 @@ use Rattle.spare_sectors.proofs.spare_map.scan_map.Given as goal
 
 abbrev pub invariant-loop-entry : goal.invariant-loop-entry
 invariant-loop-entry g l =
-    let old = g.D.SpareDevice.state l.initial.device in let new = g.D.SpareDevice.state l.device in record {
+    let old = g.D.MapDevice.state l.initial.device in let new = g.D.MapDevice.state l.device in record {
       words : new.flash.words ≡ old.flash.words;
+      programs : new.programs ≡ old.programs;
       map : new.map ≡ old.map;
       work : new.flash.operations ≡ old.flash.operations;
       erases : new.flash.erases ≡ old.flash.erases;
@@ -14,7 +15,7 @@ invariant-loop-entry g l =
       begun : new.begun ≡ old.begun;
       lit : new.flash.dark ≡ false;
       steady : StaysLit old.flash new.flash;
-      index : IsPageTable (2 * g.D.SpareDevice.SECTORS + 1) old.map 0 l.entry (g.D.Map.PageTable.entries l.table);
+      index : IsPageTable (2 * g.D.MapDevice.SECTORS + 1) old.map 0 l.entry (g.D.Map.PageTable.entries l.table);
       free : AreFree old.map 0 l.next l.entry;
       most : l.next ≤ old.begun;
     }
