@@ -77,6 +77,10 @@ uint32_t device_read_map(struct device *device, uint32_t at, uint32_t *word);
 uint32_t device_program_map(struct device *device, uint32_t at, const uint32_t *words, uint64_t count);
 
 /* Waits for a message,"""
+READS_WORDS = "/* Reads a word. The address is below FLASH_WORDS. A word that an interrupted call left reads the same " \
+    "each time. */"
+PROGRAMS_WORDS = "/* Programs words from an address on. All of them are blank. DEVICE_DONE: each was read back, and " \
+    "stays without power.\n * Else"
 SPARES = Layer(Path(__file__).with_name("spare_files"), 19, {
     "the three functions of the flash,": "the five functions of the flash,",
     "the contracts of the three functions,": "the contracts of the five functions,",
@@ -93,12 +97,10 @@ SPARES = Layer(Path(__file__).with_name("spare_files"), 19, {
     "2 * FLASH_AREA_WORDS + FLASH_WITNESS_WORDS + FLASH_SPARES * FLASH_SECTOR_WORDS,",
     "FLASH_BLOCKS = 3,\n    FLASH_SECTORS = (FLASH_AREA_WORDS + FLASH_SECTOR_WORDS - 1) / FLASH_SECTOR_WORDS\n":
     "FLASH_BLOCKS = 3\n",
-    "/* Reads a word. The address is below FLASH_WORDS. A word that an interrupted call left reads the same each time. "
-    "*/":
+    READS_WORDS:
     "/* Reads a word. The address is below FLASH_WORDS + FLASH_MAP_WORDS: spare_map.c puts the map behind the sectors. "
     "A word\n * that an interrupted call left reads the same each time. */",
-    "/* Programs words from an address on. All of them are blank. DEVICE_DONE: each was read back, and stays without "
-    "power.\n * Else":
+    PROGRAMS_WORDS:
     "/* Programs words from an address on, all below FLASH_WORDS + FLASH_MAP_WORDS. All of them are blank. "
     "DEVICE_DONE: each\n * was read back, and stays without power. Else",
     "/* Erases a sector, at most 2 * FLASH_SECTORS. DEVICE_DONE: all its words were read back as blank. Else they may "
@@ -107,6 +109,25 @@ SPARES = Layer(Path(__file__).with_name("spare_files"), 19, {
     "DEVICE_DONE:\n * all its words were read back as blank. Else they may hold anything.",
     "/* Waits for a message,": MAP_FUNCTIONS,
 })
+# both: a sector has whole slots of 32 words, and so has the map, one for each spare
+SPARE_UNITS = Layer(Path(__file__).with_name("spare_unit_files"), 19, SPARES.readme, SPARES.header | {
+    "FLASH_RECORD_WORDS = 18,": "FLASH_RECORD_WORDS = 24,",
+    "FLASH_SLOT_WORDS = 20,": "FLASH_SLOT_WORDS = 32,",
+    "FLASH_AREA_WORDS = FLASH_SLOT_WORDS * FLASH_SLOTS + 2,":
+    "FLASH_SECTORS = (FLASH_SLOT_WORDS * (FLASH_SLOTS + 1) + FLASH_SECTOR_WORDS - 1) / FLASH_SECTOR_WORDS,\n"
+    "    FLASH_AREA_WORDS = FLASH_SECTORS * FLASH_SECTOR_WORDS,",
+    "FLASH_MAP_WORDS = 20 * FLASH_SPARES,": "FLASH_MAP_WORDS = FLASH_SLOT_WORDS * FLASH_SPARES,",
+    BLOCK_LAYOUT: SECTOR_LAYOUT.replace("The map has FLASH_MAP_WORDS\n * with addresses of their own, 20",
+                                        "The map has words\n * with addresses of their own, 20"),
+    PROGRAMS_WORDS:
+    "/* Programs whole units of FLASH_UNIT_WORDS, all below FLASH_WORDS + FLASH_MAP_WORDS. All are blank, and each is "
+    "programmed\n * at most once between two erases. DEVICE_DONE: each was read back, and stays without power. Else",
+    "/* Waits for a message,": MAP_FUNCTIONS.replace("below FLASH_MAP_WORDS", "below 20 * FLASH_SPARES").replace(
+        "they share no program unit.", "each has units of its own, and\n * reads blank only if all of these do."),
+})
+# the layer of a flash that has units or not, and spare sectors or not
+LAYERS: dict[tuple[bool, bool], Layer | None] = {
+    (False, False): None, (True, False): UNITS, (False, True): SPARES, (True, True): SPARE_UNITS}
 # what is as in a port over a board, by its place
 SHARED = {
     f"crates/device_flash/{it}": FILES / "crates/device_board" / it
@@ -154,8 +175,8 @@ def fill(
     unit: int | None = None, spares: int | None = None,
 ) -> None:
     """Puts the files of a port into an empty folder, with other sizes of the flash and its board if given, and with
-    program units of so many words, or so many spare sectors, if it has such."""
-    layer = UNITS if unit else SPARES if spares else None
+    program units of so many words, and so many spare sectors, if it has such."""
+    layer = LAYERS[bool(unit), bool(spares)]
     copy_crates(folder, OWN_ON_LAYER if layer else OWN_ON_FLASH)
     placed = {f"device/{name}": path for name, path in code().items()} | {it: TOP / it for it in LICENSES}
     for place, path in (placed | own_files(layer) | SHARED).items():

@@ -103,14 +103,14 @@ def least_in_pace(pages: int, slots: int, sectors: Callable[[int], int]) -> int:
     return slots
 
 
-def why_spares_unfit(slots: int, sector_words: int, spares: int) -> str | None:
+def why_spares_unfit(slots: int, sector_words: int, spares: int, unit: int | None = None) -> str | None:
     """Why a flash can't have so many spare sectors of this size, if so. Sectors have numbers of 16 bits. The words
     and those of the map behind them are numbers of the header, which have 31."""
-    each = sector_words // SLOT_WORDS
-    if each > MOST_SLOTS:
-        return f"with spare sectors a sector has at most {MOST_SLOTS * SLOT_WORDS + SLOT_WORDS - 1:,} words"
-    sectors = 2 * sectors_of(slots, sector_words, spares=spares) + 1 + spares
-    if sectors >= 1 << 16 or sectors * sector_words + SLOT_WORDS * spares >= 1 << 31:
+    words = FRAME_WORDS if unit else SLOT_WORDS
+    if sector_words // words > MOST_SLOTS:
+        return f"with spare sectors a sector has at most {MOST_SLOTS * words + words - 1:,} words"
+    sectors = 2 * sectors_of(slots, sector_words, unit, spares) + 1 + spares
+    if sectors >= 1 << 16 or sectors * sector_words + words * spares >= 1 << 31:
         return f"{spares:,} spare sectors of {sector_words:,} words are too many: addresses have 31 bits, numbers 16"
     return None
 
@@ -120,9 +120,8 @@ def check_slots(port: Path) -> None:
     if (port / CRATE).is_file():
         pages, slots, sector_words = (check_size(port, size) for size in (PAGES, SLOTS, SECTOR_WORDS))
         why, text = why_unfit(pages, slots), (port / CRATE).read_text(encoding="utf-8")
-        if UNIT.places[CRATE].search(text):
-            check_size(port, UNIT)
+        unit = check_size(port, UNIT) if UNIT.places[CRATE].search(text) else None
         if SPARE_SECTORS.places[CRATE].search(text):
-            why = why or why_spares_unfit(slots, sector_words, check_size(port, SPARE_SECTORS))
+            why = why or why_spares_unfit(slots, sector_words, check_size(port, SPARE_SECTORS), unit)
         if why:
             raise Failed(f"{port / CRATE}: {why}")

@@ -9,8 +9,8 @@
 enum { BLANK = -1 };
 static const uint32_t made = 0x4D414445;
 
-__attribute__((section(".nvm"))) static volatile uint32_t words[FLASH_WORDS], note;
-__attribute__((section(".nvm"))) static volatile uint8_t programs[FLASH_WORDS / FLASH_UNIT_WORDS];
+__attribute__((section(".nvm"))) static volatile uint32_t words[FLASH_WORDS + FLASH_MAP_WORDS], note;
+__attribute__((section(".nvm"))) static volatile uint8_t programs[(FLASH_WORDS + FLASH_MAP_WORDS) / FLASH_UNIT_WORDS];
 
 static void must(bool is_so)
 {
@@ -21,7 +21,7 @@ static void must(bool is_so)
 uint32_t device_read(struct device *device, uint32_t at, uint32_t *word)
 {
     (void)device;
-    must(at < FLASH_WORDS);
+    must(at < FLASH_WORDS + FLASH_MAP_WORDS);
     *word = words[at];
     return DEVICE_DONE;
 }
@@ -29,7 +29,8 @@ uint32_t device_read(struct device *device, uint32_t at, uint32_t *word)
 uint32_t device_program(struct device *device, uint32_t at, const uint32_t *from, uint64_t count)
 {
     (void)device;
-    must(at % FLASH_UNIT_WORDS == 0 && count % FLASH_UNIT_WORDS == 0 && at + count <= FLASH_WORDS);
+    must(at % FLASH_UNIT_WORDS == 0 && count % FLASH_UNIT_WORDS == 0);
+    must(at + count <= FLASH_WORDS + FLASH_MAP_WORDS);
     for (size_t i = 0; i < (size_t)count; i++) {
         must(words[at + i] == (uint32_t)BLANK);
         if (i % FLASH_UNIT_WORDS == 0)
@@ -39,12 +40,14 @@ uint32_t device_program(struct device *device, uint32_t at, const uint32_t *from
     return DEVICE_DONE;
 }
 
-/* Where a sector begins. */
+/* Where a sector begins. That of the map of spare sectors, if there are any, is the last. */
 static size_t start_of(size_t sector)
 {
-    size_t area = sector / FLASH_SECTORS * FLASH_AREA_WORDS;
+    size_t area = sector / FLASH_SECTORS * FLASH_AREA_WORDS, end = 2 * FLASH_SECTORS + FLASH_SPARES + 1;
 
-    return sector > 2 * FLASH_SECTORS ? FLASH_WORDS : area + sector % FLASH_SECTORS * FLASH_SECTOR_WORDS;
+    if (sector >= end)
+        return sector == end ? FLASH_WORDS : FLASH_WORDS + FLASH_MAP_WORDS;
+    return area + sector % FLASH_SECTORS * FLASH_SECTOR_WORDS;
 }
 
 uint32_t device_erase(struct device *device, uint16_t sector)

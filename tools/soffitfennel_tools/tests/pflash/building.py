@@ -32,6 +32,7 @@ FILLS: dict[str, Callable[[Path], None]] = {
     "flash": over_flash.fill,
     "units": partial(over_flash.fill, unit=UNIT_WORDS),
     "spares": partial(over_flash.fill, spares=SPARES),
+    "spare-units": partial(over_flash.fill, unit=UNIT_WORDS, spares=SPARES),
 }
 
 

@@ -20,6 +20,7 @@ FLASHES: dict[str, tuple[dict[str, int], int]] = {
     "the flash of a port": ({}, 15),
     "one that programs whole units": ({"unit": 4}, 17),
     "one with spare sectors": ({"spares": 3, "sector_words": 4096}, 19),
+    "one with both": ({"unit": 2, "spares": 3, "sector_words": 4096}, 19),
 }
 
 

@@ -148,7 +148,6 @@ def compare_mistakes(room: Room) -> None:
     cases: tuple[tuple[list[object], str], ...] = (
         (["--spares", 2], "give --flash too"),
         (["--flash", "--spares", 0], "from 1 to 65535"),
-        (["--flash", "--spares", 2, "--unit", 8], "a port has one of them"),
         (["--flash", "--spares", 2, "--sector-words", 1_310_720], "at most 1,310,719 words"),
         (["--flash", "--spares", 65_533], "are too many"),
         (["--flash", "--spares", 65_533, "--sector-words", 64], "are too many"),
