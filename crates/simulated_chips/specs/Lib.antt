@@ -2,6 +2,7 @@ pub mod SimCuts
 pub mod SimFrameParts
 pub mod SimSectorParts
 pub mod SimSpareStates
+pub mod SimSpareUnitStates
 pub mod SimStates
 pub mod SimUnitStates
 pub mod WideSectorParts

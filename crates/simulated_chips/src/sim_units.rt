@@ -46,7 +46,7 @@ pub struct SimUnits<S: UnitSize> {
 }
 
 /// Sets the counts of so many words.
-fn count_run(programs: &mut Vec<u32>, at: usize, size: usize, number: u32)
+pub fn count_run(programs: &mut Vec<u32>, at: usize, size: usize, number: u32)
     requires { at + size ≤ length programs.old.items }
     ensures size { length programs.new.items ≡ length programs.old.items }
     ensures all { AreFilled programs.new.items at size number }
@@ -58,7 +58,7 @@ fn count_run(programs: &mut Vec<u32>, at: usize, size: usize, number: u32)
 }
 
 /// Returns the number of words that are not blank, or were programmed since their erase.
-fn used_words(words: &[u32], programs: &[u32], at: usize, size: usize) -> u32
+pub fn used_words(words: &[u32], programs: &[u32], at: usize, size: usize) -> u32
     requires words { at + size ≤ length words.now }
     requires programs { at + size ≤ length programs.now }
 {
