@@ -9,7 +9,7 @@ from functools import partial
 from pathlib import Path
 
 from ..chips.module import BOARD, FLASH
-from ..porting.over_flash import OWN_ON_FLASH, OWN_ON_LAYER
+from ..porting.over_flash import OWN_ON_FLASH, SPARES
 from ..porting.over_flash import fill as fill_over_flash
 from ..porting.writing import OWN, TOP, fill, needed, write_port
 from .trying import BUILT, Crate, copy_part
@@ -29,7 +29,7 @@ class Port:
 PORTS = {
     "board": Port(fill, OWN, BOARD),
     "flash": Port(fill_over_flash, OWN_ON_FLASH, FLASH),
-    "spares": Port(partial(fill_over_flash, spares=3), OWN_ON_LAYER, FLASH),
+    "spares": Port(partial(fill_over_flash, spares=3), SPARES.own(), FLASH),
 }
 
 

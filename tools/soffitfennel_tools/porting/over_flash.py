@@ -15,8 +15,6 @@ OWN_ON_FLASH = {
     "card_device staticlib": "nvm_board flash_log flash_board undo_journal device_flash t1_link card_start "
     "card_core card_turns",
 }
-# the same over a flash that takes a layer of ours
-OWN_ON_LAYER = OWN_ON_FLASH | {"device_flash": "nvm_board flash_device program_units spare_sectors"}
 # what differs there: the flash is made of what the device is
 LAYER_TEXTS = {
     "crates/card_device/src/board.rt": {
@@ -31,9 +29,10 @@ COUNTED = "logic=proved functions=15"
 
 @dataclass(frozen=True)
 class Layer:
-    """A layer of ours that a flash needs: the files of its crate, the functions there, and what differs in the README
-    and the header."""
+    """A layer of ours that a flash needs: its crates, the files of the flash's crate, the functions there, and what
+    differs in the README and the header."""
 
+    below: str
     files: Path
     functions: int
     readme: dict[str, str]
@@ -44,9 +43,13 @@ class Layer:
         counted = {COUNTED: f"logic=proved functions={self.functions}"}
         return LAYER_TEXTS | {"README.md": counted | self.readme, HEADER: self.header}
 
+    def own(self) -> dict[str, str]:
+        """The crates of the flash, and the crates of ours that each uses."""
+        return OWN_ON_FLASH | {"device_flash": f"nvm_board flash_device {self.below}"}
+
 
 # whole units: a slot takes 32 words, 24 of them for its record, and each block has a slot for its close mark
-UNITS = Layer(Path(__file__).with_name("unit_files"), 17, {}, {
+UNITS = Layer("program_units", Path(__file__).with_name("unit_files"), 17, {}, {
     "FLASH_RECORD_WORDS = 18,": "FLASH_RECORD_WORDS = 24,",
     "FLASH_SLOT_WORDS = 20,": "FLASH_SLOT_WORDS = 32,",
     "FLASH_SLOT_WORDS * FLASH_SLOTS + 2,": "FLASH_SLOT_WORDS * (FLASH_SLOTS + 1),",
@@ -77,11 +80,11 @@ uint32_t device_read_map(struct device *device, uint32_t at, uint32_t *word);
 uint32_t device_program_map(struct device *device, uint32_t at, const uint32_t *words, uint64_t count);
 
 /* Waits for a message,"""
-READS_WORDS = "/* Reads a word. The address is below FLASH_WORDS. A word that an interrupted call left reads the same " \
-    "each time. */"
+READS_WORDS = "/* Reads a word. The address is below FLASH_WORDS. A word that an interrupted call left reads the " \
+    "same each time. */"
 PROGRAMS_WORDS = "/* Programs words from an address on. All of them are blank. DEVICE_DONE: each was read back, and " \
     "stays without power.\n * Else"
-SPARES = Layer(Path(__file__).with_name("spare_files"), 19, {
+SPARES = Layer("spare_sectors", Path(__file__).with_name("spare_files"), 19, {
     "the three functions of the flash,": "the five functions of the flash,",
     "the contracts of the three functions,": "the contracts of the five functions,",
 }, {
@@ -110,7 +113,8 @@ SPARES = Layer(Path(__file__).with_name("spare_files"), 19, {
     "/* Waits for a message,": MAP_FUNCTIONS,
 })
 # both: a sector has whole slots of 32 words, and so has the map, one for each spare
-SPARE_UNITS = Layer(Path(__file__).with_name("spare_unit_files"), 19, SPARES.readme, SPARES.header | {
+BOTH = f"{UNITS.below} {SPARES.below}"
+SPARE_UNITS = Layer(BOTH, Path(__file__).with_name("spare_unit_files"), 19, SPARES.readme, SPARES.header | {
     "FLASH_RECORD_WORDS = 18,": "FLASH_RECORD_WORDS = 24,",
     "FLASH_SLOT_WORDS = 20,": "FLASH_SLOT_WORDS = 32,",
     "FLASH_AREA_WORDS = FLASH_SLOT_WORDS * FLASH_SLOTS + 2,":
@@ -177,7 +181,7 @@ def fill(
     """Puts the files of a port into an empty folder, with other sizes of the flash and its board if given, and with
     program units of so many words, and so many spare sectors, if it has such."""
     layer = LAYERS[bool(unit), bool(spares)]
-    copy_crates(folder, OWN_ON_LAYER if layer else OWN_ON_FLASH)
+    copy_crates(folder, layer.own() if layer else OWN_ON_FLASH)
     placed = {f"device/{name}": path for name, path in code().items()} | {it: TOP / it for it in LICENSES}
     for place, path in (placed | own_files(layer) | SHARED).items():
         target = folder / place.removesuffix(SUFFIX)
