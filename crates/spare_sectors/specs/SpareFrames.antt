@@ -60,9 +60,12 @@ pub record TakesFrames (slots sectors each spares : ℕ) : Type 0 where
   pub numbers : all_sectors sectors spares < 65536
   pub places : FRAME_WORDS * each * all_sectors sectors spares < 2 ^ 32
 
+-- the words of all sectors, and how often they were programmed
+abbrev pub own_units : SpareState → UnitState
+own_units s = record { flash = s.flash; programs = s.programs }
+
 -- The device that a log with units sees: that of the chip, with the words of the log in place of its own, and how
--- often
--- they were programmed. What a spare was tried for is left out, as by `without_spares`.
+-- often they were programmed. What a spare was tried for is left out, as by `without_spares`.
 abbrev pub without_spare_units : ℕ → ℕ → ℕ → ℕ → ℕ → SpareState → UnitState
 without_spare_units slots sectors each spares absorbed s = record {
   flash = record {

@@ -109,11 +109,12 @@ fn erase_frames<D: SpareUnitDevice>(
         - sector_frame D.SLOTS D.SECTORS D.SECTOR_FRAMES sector))
         (unit_list D.SLOTS D.SECTORS D.SECTOR_FRAMES D.SPARES (D.state device.new).flash.words
         (D.state device.old).map) }
-    ensures counted { AreFilled (unit_list D.SLOTS D.SECTORS D.SECTOR_FRAMES D.SPARES (D.state device.new).programs
-        (D.state device.old).map)
+    ensures counted { CountsErase
+        (without_spare_units D.SLOTS D.SECTORS D.SECTOR_FRAMES D.SPARES 0 (D.state device.old))
+        (without_spare_units D.SLOTS D.SECTORS D.SECTOR_FRAMES D.SPARES 0 (D.state device.new))
         (FRAME_WORDS * sector_frame D.SLOTS D.SECTORS D.SECTOR_FRAMES sector)
         (FRAME_WORDS * (sector_frame D.SLOTS D.SECTORS D.SECTOR_FRAMES (sector + 1)
-        - sector_frame D.SLOTS D.SECTORS D.SECTOR_FRAMES sector)) 0 }
+        - sector_frame D.SLOTS D.SECTORS D.SECTOR_FRAMES sector)) }
     ensures others { SameElsewhere (unit_list D.SLOTS D.SECTORS D.SECTOR_FRAMES D.SPARES (D.state device.old).programs
         (D.state device.old).map)
         (FRAME_WORDS * sector_frame D.SLOTS D.SECTORS D.SECTOR_FRAMES sector)
@@ -132,8 +133,8 @@ fn erase_frames<D: SpareUnitDevice>(
     Ok(())
 }
 
-/// Erases a free spare, and puts a sector of the log there. At every exit no word of another sector changes, and no
-/// program of the sector's words counts.
+/// Erases a free spare, and puts a sector of the log there. At every exit no word of another sector changes. No program
+/// of the sector's words counts, or none of its words changed.
 fn take_spare<D: SpareUnitDevice>(
     device: &mut D,
     table: &mut D::Map,
@@ -145,11 +146,6 @@ fn take_spare<D: SpareUnitDevice>(
     requires below { entry < D.SPARES }
     requires index { IsPageTable (2 * D.SECTORS + 1) (D.state device.old).map 0 D.SPARES (D.Map.entries table.old) }
     requires free { AreFree (D.state device.old).map 0 entry D.SPARES }
-    requires counted { AreFilled (unit_list D.SLOTS D.SECTORS D.SECTOR_FRAMES D.SPARES (D.state device.old).programs
-        (D.state device.old).map)
-        (FRAME_WORDS * sector_frame D.SLOTS D.SECTORS D.SECTOR_FRAMES sector)
-        (FRAME_WORDS * (sector_frame D.SLOTS D.SECTORS D.SECTOR_FRAMES (sector + 1)
-        - sector_frame D.SLOTS D.SECTORS D.SECTOR_FRAMES sector)) 0 }
     ensures index { OnOk result (IsPageTable (2 * D.SECTORS + 1) (D.state device.new).map 0 D.SPARES
         (D.Map.entries table.new)) }
     ensures free { AreFree (D.state device.new).map 0 (entry + 1) D.SPARES }
@@ -165,11 +161,12 @@ fn take_spare<D: SpareUnitDevice>(
         - sector_frame D.SLOTS D.SECTORS D.SECTOR_FRAMES sector))
         (unit_list D.SLOTS D.SECTORS D.SECTOR_FRAMES D.SPARES (D.state device.new).flash.words
         (D.state device.new).map) }
-    ensures counted { AreFilled (unit_list D.SLOTS D.SECTORS D.SECTOR_FRAMES D.SPARES (D.state device.new).programs
-        (D.state device.new).map)
+    ensures counted { CountsErase
+        (without_spare_units D.SLOTS D.SECTORS D.SECTOR_FRAMES D.SPARES 0 (D.state device.old))
+        (without_spare_units D.SLOTS D.SECTORS D.SECTOR_FRAMES D.SPARES 0 (D.state device.new))
         (FRAME_WORDS * sector_frame D.SLOTS D.SECTORS D.SECTOR_FRAMES sector)
         (FRAME_WORDS * (sector_frame D.SLOTS D.SECTORS D.SECTOR_FRAMES (sector + 1)
-        - sector_frame D.SLOTS D.SECTORS D.SECTOR_FRAMES sector)) 0 }
+        - sector_frame D.SLOTS D.SECTORS D.SECTOR_FRAMES sector)) }
     ensures others { SameElsewhere (unit_list D.SLOTS D.SECTORS D.SECTOR_FRAMES D.SPARES (D.state device.old).programs
         (D.state device.old).map)
         (FRAME_WORDS * sector_frame D.SLOTS D.SECTORS D.SECTOR_FRAMES sector)
@@ -273,11 +270,6 @@ fn move_sector<D: SpareUnitDevice>(
     requires ready { known.old.ready ≡ true }
     requires fault { known.old.absorbed < (D.state device.old).flash.faults }
     requires spares { HasSpares D.Map.entries D.SECTORS D.SPARES (D.state device.old) known.old }
-    requires counted { AreFilled (unit_list D.SLOTS D.SECTORS D.SECTOR_FRAMES D.SPARES (D.state device.old).programs
-        (D.state device.old).map)
-        (FRAME_WORDS * sector_frame D.SLOTS D.SECTORS D.SECTOR_FRAMES sector)
-        (FRAME_WORDS * (sector_frame D.SLOTS D.SECTORS D.SECTOR_FRAMES (sector + 1)
-        - sector_frame D.SLOTS D.SECTORS D.SECTOR_FRAMES sector)) 0 }
     ensures spares { HasSpares D.Map.entries D.SECTORS D.SPARES (D.state device.new) known.new }
     ensures absorbed { known.new.absorbed ≡ known.old.absorbed + 1 }
     ensures done { OnOk result (AreFilled (unit_list D.SLOTS D.SECTORS D.SECTOR_FRAMES D.SPARES
@@ -292,11 +284,12 @@ fn move_sector<D: SpareUnitDevice>(
         - sector_frame D.SLOTS D.SECTORS D.SECTOR_FRAMES sector))
         (unit_list D.SLOTS D.SECTORS D.SECTOR_FRAMES D.SPARES (D.state device.new).flash.words
         (D.state device.new).map) }
-    ensures counted { AreFilled (unit_list D.SLOTS D.SECTORS D.SECTOR_FRAMES D.SPARES (D.state device.new).programs
-        (D.state device.new).map)
+    ensures counted { CountsErase
+        (without_spare_units D.SLOTS D.SECTORS D.SECTOR_FRAMES D.SPARES 0 (D.state device.old))
+        (without_spare_units D.SLOTS D.SECTORS D.SECTOR_FRAMES D.SPARES 0 (D.state device.new))
         (FRAME_WORDS * sector_frame D.SLOTS D.SECTORS D.SECTOR_FRAMES sector)
         (FRAME_WORDS * (sector_frame D.SLOTS D.SECTORS D.SECTOR_FRAMES (sector + 1)
-        - sector_frame D.SLOTS D.SECTORS D.SECTOR_FRAMES sector)) 0 }
+        - sector_frame D.SLOTS D.SECTORS D.SECTOR_FRAMES sector)) }
     ensures others { SameElsewhere (unit_list D.SLOTS D.SECTORS D.SECTOR_FRAMES D.SPARES (D.state device.old).programs
         (D.state device.old).map)
         (FRAME_WORDS * sector_frame D.SLOTS D.SECTORS D.SECTOR_FRAMES sector)

@@ -6,10 +6,11 @@ ghost use Rattle.flash_device.specs.FlashBlocks.{steps_of};
 ghost use Rattle.flash_device.specs.FlashCalls.{AreFilled, IsThere, Lights, SameElsewhere};
 ghost use Rattle.flash_device.specs.declared.flash.TheConstants.{BLANK};
 ghost use Rattle.flash_device.specs.declared.layout.TheConstants.{SPARES as PASSED_SLOTS, STEP_PAGES};
-ghost use Rattle.spare_sectors.specs.SpareFrames.{TakesFrames};
+ghost use Rattle.spare_sectors.specs.SpareFrames.{TakesFrames, own_units};
 ghost use Rattle.spare_sectors.specs.SparePlaces.{all_sectors};
 ghost use Rattle.spare_sectors.specs.SpareStates.{Blames};
-ghost use Rattle.program_units.specs.UnitFrames.{AreUnits, IsUnit};
+ghost use Rattle.program_units.specs.UnitFrames.{AreUnits, IsFrameRun, IsUnit};
+ghost use Rattle.program_units.specs.UnitStates.{CountsErase};
 ghost use Rattle.spare_sectors.specs.declared.map_device.SparePart.TheVariants.{Sector, Words};
 ghost use Rattle.program_units.specs.declared.unit_frames.TheConstants.{FRAME_WORDS};
 
@@ -58,10 +59,11 @@ pub trait SpareUnitDevice: MapDevice {
         ensures blames { Blames Words (Self.state self.old) (Self.state self.new) result }
         ensures light { Lights (Self.state self.old).flash (Self.state self.new).flash result };
 
-    /// Programs whole units, which are blank and were not programmed since their erase. After an error each word of
-    /// them holds anything. No other word changes.
+    /// Programs whole units of a frame, which are blank and were not programmed since their erase. After an error each
+    /// word of them holds anything. No other word changes.
     fn program(&mut self, at: u32, words: &[u32]) -> Result<(), DeviceErr>
         requires lit { (Self.state self.old).flash.dark ≡ false }
+        requires run { IsFrameRun at (length words.now) }
         requires units { AreUnits UNIT at (length words.now) }
         requires within { at + length words.now ≤ FRAME_WORDS * SECTOR_FRAMES * all_sectors Self.SECTORS Self.SPARES }
         requires blank { AreFilled (Self.state self.old).flash.words at (length words.now) BLANK }
@@ -80,7 +82,8 @@ pub trait SpareUnitDevice: MapDevice {
         ensures blames { Blames Words (Self.state self.old) (Self.state self.new) result }
         ensures light { Lights (Self.state self.old).flash (Self.state self.new).flash result };
 
-    /// Erases a sector. After an error each of its words holds anything. No other word changes.
+    /// Erases a sector. After an error each of its words holds anything, and no program of them counts any more, or the
+    /// erase was not begun. No other word changes.
     fn erase(&mut self, sector: u16) -> Result<(), DeviceErr>
         requires lit { (Self.state self.old).flash.dark ≡ false }
         requires sector { sector < all_sectors Self.SECTORS Self.SPARES }
@@ -88,8 +91,10 @@ pub trait SpareUnitDevice: MapDevice {
             (FRAME_WORDS * SECTOR_FRAMES) BLANK) }
         ensures elsewhere { SameElsewhere (Self.state self.old).flash.words (FRAME_WORDS * SECTOR_FRAMES * sector)
             (FRAME_WORDS * SECTOR_FRAMES) (Self.state self.new).flash.words }
-        ensures counted { AreFilled (Self.state self.new).programs (FRAME_WORDS * SECTOR_FRAMES * sector)
-            (FRAME_WORDS * SECTOR_FRAMES) 0 }
+        ensures counted { OnOk result (AreFilled (Self.state self.new).programs
+            (FRAME_WORDS * SECTOR_FRAMES * sector) (FRAME_WORDS * SECTOR_FRAMES) 0) }
+        ensures failed { OnErr result (CountsErase (own_units (Self.state self.old)) (own_units (Self.state self.new))
+            (FRAME_WORDS * SECTOR_FRAMES * sector) (FRAME_WORDS * SECTOR_FRAMES)) }
         ensures others { SameElsewhere (Self.state self.old).programs (FRAME_WORDS * SECTOR_FRAMES * sector)
             (FRAME_WORDS * SECTOR_FRAMES) (Self.state self.new).programs }
         ensures map { (Self.state self.new).map ≡ (Self.state self.old).map }

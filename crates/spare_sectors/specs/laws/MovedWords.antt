@@ -4,7 +4,7 @@ use Rattle.std.specs.Prelude.{length, slice_index}
 use Rattle.std.proofs.Common.{refl, sym, ◌∙◌, ap, ap₂, inl, inr, subst, ⊎_elim, arith}
 use Rattle.std.proofs.Math.Nat.{mul-le-mul_left, mul-suc}
 use Rattle.std.proofs.lemmas.Bool.{cases_eq, cases_lt, cases_order}
-use Rattle.std.proofs.lemmas.List.{get_or_past}
+use Rattle.std.proofs.lemmas.List.{ext_get_or, get_or_past}
 use Rattle.std.proofs.lemmas.List.Elements.{All-get_or, All-from_get_or}
 use Rattle.nvm_board.specs.Facts.{AreWords}
 use Rattle.flash_device.specs.FlashCalls.{AreFilled, IsThere, SameElsewhere}
@@ -327,30 +327,23 @@ module _ (sector start : ℕ → ℕ) (total size sectors spares : ℕ) where
       taken_filled word found all = moved_filled m after map moved s (2 * sectors + 1 + entry) most change word
           (lies_taken sectors spares moved s entry found) all
 
-      -- one that doesn't move keeps its words, though the spare changed
-      pub spare_filled : (word : ℕ) → AreFree map 0 entry spares → entry < spares
-          → find moved 0 spares s ≡ find map 0 spares s
-          → AreFilled (moved_words sector start total size sectors spares m map) (start s) (start (s + 1) - start s)
-          word
-          → AreFilled (moved_words sector start total size sectors spares after moved) (start s)
-          (start (s + 1) - start s) word
-      spare_filled word are below found all = record {
-        each = λ k lt.
-            let a = start s + k in
-            let up = rises_to start lay.rise (s + 1) (2 * sectors + 1) (omega (arith, most)) in
-            let end = lay.last in
-            let high : a < start (s + 1) = omega (arith, lt) in
-            let inside : a < total = omega (arith, high, up, end) in
-            let is = only_part a s inside (omega arith) high in
-            let cell = cell_in map a inside in
-            let here : lies_in sectors spares moved (sector a) ≡ lies_in sectors spares map (sector a) =
-            ap (lies_in sectors spares moved) is ∙ lies_same sectors spares map moved s found
-            ∙ sym (ap (lies_in sectors spares map) is) in
-            let apart = free_apart sectors spares map entry (sector a) are below (lay.most a inside) in
-            index-moved_words after moved a inside
-            ∙ ap (λ (l : ℕ). slice_index after (size * l + (a - start (sector a)))) here
-            ∙ change.same (moved_cell sector start size sectors spares map a)
-            (blocks_apart size (lies_in sectors spares map (sector a)) (2 * sectors + 1 + entry)
-            (moved_cell sector start size sectors spares map a) apart cell.low cell.high)
-            ∙ sym (index-moved_words m map a inside) ∙ all.each k lt;
-      }
+      -- where each sector lies where it lay, all keep their words, though the spare changed
+      pub words_stay : AreFree map 0 entry spares → entry < spares
+          → ((t : ℕ) → find moved 0 spares t ≡ find map 0 spares t)
+          → moved_words sector start total size sectors spares after moved
+          ≡ moved_words sector start total size sectors spares m map
+      words_stay are below found = ext_get_or 0 (moved_words sector start total size sectors spares after moved)
+          (moved_words sector start total size sectors spares m map)
+          (length-moved_words after moved ∙ sym (length-moved_words m map))
+          (λ a lt.
+          let n = length-moved_words after moved in
+          let inside : a < total = omega (arith, lt, n) in
+          let cell = cell_in map a inside in
+          let apart = free_apart sectors spares map entry (sector a) are below (lay.most a inside) in
+          index-moved_words after moved a inside
+          ∙ ap (λ (l : ℕ). slice_index after (size * l + (a - start (sector a))))
+          (lies_same sectors spares map moved (sector a) (found (sector a)))
+          ∙ change.same (moved_cell sector start size sectors spares map a)
+          (blocks_apart size (lies_in sectors spares map (sector a)) (2 * sectors + 1 + entry)
+          (moved_cell sector start size sectors spares map a) apart cell.low cell.high)
+          ∙ sym (index-moved_words m map a inside))

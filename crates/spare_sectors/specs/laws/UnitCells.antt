@@ -1,8 +1,9 @@
 -- Laws of the calls of a log with units on a device with spare sectors.
-use Rattle.std.specs.Prelude.{◌≡◌, ◌⊎◌, ◌<◌, ◌≤◌, ◌+◌, ◌-◌, ◌*◌, ◌/◌, ◌%◌, ◌^◌, ℕ, List, Ok, Err, is_ok, length}
-use Rattle.std.specs.Prelude.{slice_index, Result}
-use Rattle.std.proofs.Common.{refl, sym, ◌∙◌, ap, ap₂, subst, ⊎_elim, arith, true≢false}
+use Rattle.std.specs.Prelude.{◌≡◌, ◌≢◌, ◌⊎◌, ◌<◌, ◌≤◌, ◌+◌, ◌-◌, ◌*◌, ◌/◌, ◌%◌, ◌^◌, ℕ, List, Ok}
+use Rattle.std.specs.Prelude.{Err, is_ok, length, slice_index, Result}
+use Rattle.std.proofs.Common.{sym, ◌∙◌, ap, ap₂, subst, ⊎_elim, arith, true≢false}
 use Rattle.std.proofs.Math.Nat.{mul_assoc}
+use Rattle.std.proofs.lemmas.Bool.{cases_eq}
 use Rattle.nvm_board.specs.declared.board.DeviceErr.{DeviceErr}
 use Rattle.flash_device.specs.FlashCalls.{AreFilled, IsThere, Lights, SameElsewhere}
 use Rattle.flash_device.specs.FlashLogs.{find}
@@ -15,8 +16,8 @@ use Rattle.spare_sectors.specs.SpareStates.{SpareState}
 use Rattle.program_units.specs.UnitFrames.{AreUnits, IsFrameRun, IsUnit, device_size}
 use Rattle.spare_sectors.specs.laws.FrameParts.{frame_run, frames_lie}
 use Rattle.spare_sectors.specs.laws.MovedWords.{cell_within, erased_elsewhere, erased_filled, run_blank}
-use Rattle.spare_sectors.specs.laws.MovedWords.{run_elsewhere, run_filled, run_there, run_within, spare_filled}
-use Rattle.spare_sectors.specs.laws.MovedWords.{taken_elsewhere, taken_filled}
+use Rattle.spare_sectors.specs.laws.MovedWords.{run_elsewhere, run_filled, run_there, run_within}
+use Rattle.spare_sectors.specs.laws.MovedWords.{taken_elsewhere, taken_filled, words_stay}
 use Rattle.spare_sectors.specs.laws.SpareSteps.{lies_table}
 
 module _ (slots sectors each spares : ℕ) (takes : TakesFrames slots sectors each spares) where
@@ -59,22 +60,22 @@ module _ (slots sectors each spares : ℕ) (takes : TakesFrames slots sectors ea
   -- a run in one frame
   module _ (map : List ℕ) (at n cell : ℕ) (fits : at + n ≤ device_size slots) (run : IsFrameRun at n)
       (is : cell ≡ unit_cell slots sectors each spares map at) where
+    low : word_start slots sectors each (word_sector slots sectors each at) ≤ at
+    low = (frames_lie slots sectors each spares takes).low at (let some = run.some in omega (arith, fits, some))
+
+    place : cell ≡ 32 * (each * lies_in sectors spares map (word_sector slots sectors each at))
+        + (at - word_start slots sectors each (word_sector slots sectors each at))
+    place =
+        let e : 32 * each * lies_in sectors spares map (word_sector slots sectors each at)
+        ≡ 32 * (each * lies_in sectors spares map (word_sector slots sectors each at)) =
+        mul_assoc 32 each (lies_in sectors spares map (word_sector slots sectors each at)) in omega (arith, is, e)
+
+    pub units_run : IsFrameRun cell n
+    units_run = let few = run.fits in record { some = run.some; fits = omega (arith, few, place, low) }
+
     pub units_there : (unit : ℕ) → IsUnit unit → AreUnits unit at n → AreUnits unit cell n
     units_there unit fit are = record { begins = begins; ends = are.ends }
       where
-        s : ℕ
-        s = word_sector slots sectors each at
-
-        l : ℕ
-        l = lies_in sectors spares map s
-
-        low : 32 * sector_frame slots sectors each s ≤ at
-        low = (frames_lie slots sectors each spares takes).low at
-            (let some = run.some in omega (arith, fits, some))
-
-        place : cell ≡ 32 * (each * l) + (at - 32 * sector_frame slots sectors each s)
-        place = let e : 32 * each * l ≡ 32 * (each * l) = mul_assoc 32 each l in omega (arith, is, e)
-
         by_size : (u : ℕ) → ((u ≡ 1) ⊎ (u ≡ 2)) ⊎ ((u ≡ 4) ⊎ (u ≡ 8)) → at % u ≡ 0 → cell % u ≡ 0
         by_size u size begins = ⊎_elim
             (λ (small : (u ≡ 1) ⊎ (u ≡ 2)). ⊎_elim
@@ -157,6 +158,16 @@ module _ (slots sectors each spares : ℕ) (takes : TakesFrames slots sectors ea
         (erased_filled (word_sector slots sectors each) (word_start slots sectors each) (device_size slots) (32 * each)
         sectors spares (frames_lie slots sectors each spares takes) m after map s most change word all)
 
+    -- the same by the map behind the erase
+    pub erased_behind : (word : ℕ) (behind : List ℕ) → behind ≡ map
+        → AreFilled after (32 * each * lies_in sectors spares map s) (32 * each) word
+        → AreFilled (unit_list slots sectors each spares after behind) (word_start slots sectors each s)
+        (32 * (sector_frame slots sectors each (s + 1) - sector_frame slots sectors each s)) word
+    erased_behind word behind same all = subst (λ (l : List ℕ). AreFilled (unit_list slots sectors each spares after l)
+        (word_start slots sectors each s)
+        (32 * (sector_frame slots sectors each (s + 1) - sector_frame slots sectors each s)) word) (sym same)
+        (erased_units word all)
+
   -- a sector that is put into a spare
   module _ (m after map moved : List ℕ) (s entry : ℕ) (most : s ≤ 2 * sectors) (below : entry < spares)
       (are : AreFree map 0 entry spares)
@@ -182,31 +193,18 @@ module _ (slots sectors each spares : ℕ) (takes : TakesFrames slots sectors ea
         sectors spares (frames_lie slots sectors each spares takes) m after map moved s entry most change word found
         all)
 
-    pub kept_units : (word : ℕ) → find moved 0 spares s ≡ find map 0 spares s
-        → AreFilled (unit_list slots sectors each spares m map) (word_start slots sectors each s)
-        (32 * (sector_frame slots sectors each (s + 1) - sector_frame slots sectors each s)) word
-        → AreFilled (unit_list slots sectors each spares after moved) (word_start slots sectors each s)
-        (32 * (sector_frame slots sectors each (s + 1) - sector_frame slots sectors each s)) word
-    kept_units word found all = by_frames (λ n. AreFilled (unit_list slots sectors each spares after moved)
-        (word_start slots sectors each s) n word) s
-        (spare_filled (word_sector slots sectors each) (word_start slots sectors each) (device_size slots) (32 * each)
-        sectors spares (frames_lie slots sectors each spares takes) m after map moved s entry most change word are
-        below
-        found (subst (λ (n : ℕ). AreFilled (unit_list slots sectors each spares m map) (word_start slots sectors each
-        s)
-        n word) (sym (sector_span s)) all))
+    pub kept_units : ((t : ℕ) → find moved 0 spares t ≡ find map 0 spares t)
+        → unit_list slots sectors each spares after moved ≡ unit_list slots sectors each spares m map
+    kept_units found = words_stay (word_sector slots sectors each) (word_start slots sectors each) (device_size slots)
+        (32 * each) sectors spares (frames_lie slots sectors each spares takes) m after map moved s entry most change
+        are below found
 
-    -- whether it lies there or where it lay
-    pub either_units : (word : ℕ)
-        → (find moved 0 spares s ≡ find map 0 spares s) ⊎ (find moved 0 spares s ≡ entry + 1)
-        → AreFilled after (32 * each * (2 * sectors + 1 + entry)) (32 * each) word
-        → AreFilled (unit_list slots sectors each spares m map) (word_start slots sectors each s)
-        (32 * (sector_frame slots sectors each (s + 1) - sector_frame slots sectors each s)) word
-        → AreFilled (unit_list slots sectors each spares after moved) (word_start slots sectors each s)
-        (32 * (sector_frame slots sectors each (s + 1) - sector_frame slots sectors each s)) word
-    either_units word either there here = ⊎_elim
-        (λ (kept : find moved 0 spares s ≡ find map 0 spares s). kept_units word kept here)
-        (λ (found : find moved 0 spares s ≡ entry + 1). taken_units word found there) either
+-- if no other sector moves, and this one doesn't, none does
+pub none_moves : (spares : ℕ) (map : List ℕ) (s : ℕ) (moved : List ℕ) → MovesOnly spares map s moved
+    → find moved 0 spares s ≡ find map 0 spares s → (t : ℕ) → find moved 0 spares t ≡ find map 0 spares t
+none_moves spares map s moved moves kept t = ⊎_elim
+    (λ (e : t ≡ s). subst (λ (n : ℕ). find moved 0 spares n ≡ find map 0 spares n) (sym e) kept)
+    (λ (other : t ≢ s). moves.others t other) (cases_eq t s)
 
 -- Ok is no error
 pub no_error : {T E : Type 0} (value : T) (error : E) (r : Result T E) → r ≡ Ok value → r ≡ Err error → ⊥

@@ -1,4 +1,4 @@
-use Rattle.std.proofs.Common.{◌≤◌, ◌*◌, ℕ, ◌∙◌, arith}
+use Rattle.std.proofs.Common.{◌∙◌, arith}
 use Rattle.spare_sectors.specs.laws.SpareSteps.{table_most}
 use Rattle.spare_sectors.specs.laws.UnitCells.{cell_fits, cell_inside, cell_is, sector_low, sector_most}
 use Rattle.spare_sectors.proofs.spare_frames.cell_at.Goals as goal

@@ -1,11 +1,12 @@
-use Rattle.std.proofs.Common.{◌≡◌, ◌*◌, ℕ, subst, ◌∙◌, rules}
+use Rattle.std.proofs.Common.{◌≡◌, ◌*◌, ℕ, List, ap₂, inl, inr, subst, ⊎_elim, ◌∙◌, rules}
 use Rattle.flash_device.specs.declared.flash.TheConstants.{BLANK}
 use Rattle.flash_device.specs.FlashCalls.{AreFilled, SameElsewhere}
+use Rattle.spare_sectors.specs.SpareFrames.{unit_list}
 use Rattle.spare_sectors.specs.SparePlaces.{lies_in}
 use Rattle.spare_sectors.specs.SpareStates.{Blames}
 use Rattle.spare_sectors.specs.declared.map_device.SparePart.TheVariants.{Sector}
 use Rattle.spare_sectors.specs.laws.SpareSteps.{lies_table, table_most}
-use Rattle.spare_sectors.specs.laws.UnitCells.{erased_others, erased_units}
+use Rattle.spare_sectors.specs.laws.UnitCells.{erased_behind, erased_others, erased_units}
 use Rattle.spare_sectors.proofs.spare_unit_calls.erase_frames.Goals as goal
 
 pub lies_at-requires-clause-spare : goal.lies_at-requires-clause-spare
@@ -49,12 +50,23 @@ returns-in_err-erase-clause-counted g c =
     c.lies_at.ensures.is
     ∙ lies_table g.D.MapDevice.SECTORS g.D.MapDevice.SPARES old.map _ c.requires.index c.args.sector
     c.requires.sector in
-    erased_units g.D.SpareUnitDevice.SLOTS g.D.MapDevice.SECTORS g.D.SpareUnitDevice.SECTOR_FRAMES
-    g.D.MapDevice.SPARES g.met.D.SpareUnitDevice.sectors_fit old.programs new.programs
-    old.map c.args.sector c.requires.sector
-    (subst (λ (k : ℕ). SameElsewhere old.programs (size * k) size new.programs) here c.erase.ensures.others)
-    0
-    (subst (λ (k : ℕ). AreFilled new.programs (size * k) size 0) here c.erase.ensures.counted)
+    let same = λ (m after : List ℕ) (kept : after ≡ m).
+    ap₂ (λ (l map : List ℕ). unit_list g.D.SpareUnitDevice.SLOTS g.D.MapDevice.SECTORS g.D.SpareUnitDevice.SECTOR_FRAMES
+    g.D.MapDevice.SPARES l map) kept c.erase.ensures.map in
+    ⊎_elim
+    (λ (begun : AreFilled new.programs (size * c.lies_at.result) size 0).
+    record {
+      is = inl (
+          erased_behind g.D.SpareUnitDevice.SLOTS g.D.MapDevice.SECTORS g.D.SpareUnitDevice.SECTOR_FRAMES
+          g.D.MapDevice.SPARES g.met.D.SpareUnitDevice.sectors_fit old.programs new.programs
+          old.map c.args.sector c.requires.sector
+          (subst (λ (k : ℕ). SameElsewhere old.programs (size * k) size new.programs) here c.erase.ensures.others)
+          0 new.map c.erase.ensures.map
+          (subst (λ (k : ℕ). AreFilled new.programs (size * k) size 0) here begun));
+    })
+    (λ (none : (new.flash.words ≡ old.flash.words) × (new.programs ≡ old.programs)).
+    record { is = inr (same old.flash.words new.flash.words none.0, same old.programs new.programs none.1) })
+    c.in_err-erase.ensures.failed.is
 
 pub returns-clause-elsewhere : goal.returns-clause-elsewhere
 returns-clause-elsewhere g c =
@@ -93,12 +105,15 @@ returns-clause-counted g c =
     c.lies_at.ensures.is
     ∙ lies_table g.D.MapDevice.SECTORS g.D.MapDevice.SPARES old.map _ c.requires.index c.args.sector
     c.requires.sector in
-    erased_units g.D.SpareUnitDevice.SLOTS g.D.MapDevice.SECTORS g.D.SpareUnitDevice.SECTOR_FRAMES
-    g.D.MapDevice.SPARES g.met.D.SpareUnitDevice.sectors_fit old.programs new.programs
-    old.map c.args.sector c.requires.sector
-    (subst (λ (k : ℕ). SameElsewhere old.programs (size * k) size new.programs) here c.erase.ensures.others)
-    0
-    (subst (λ (k : ℕ). AreFilled new.programs (size * k) size 0) here c.erase.ensures.counted)
+    record {
+      is = inl (
+          erased_behind g.D.SpareUnitDevice.SLOTS g.D.MapDevice.SECTORS g.D.SpareUnitDevice.SECTOR_FRAMES
+          g.D.MapDevice.SPARES g.met.D.SpareUnitDevice.sectors_fit old.programs new.programs
+          old.map c.args.sector c.requires.sector
+          (subst (λ (k : ℕ). SameElsewhere old.programs (size * k) size new.programs) here c.erase.ensures.others)
+          0 new.map c.erase.ensures.map
+          (subst (λ (k : ℕ). AreFilled new.programs (size * k) size 0) here c.in_ok-erase.ensures.counted));
+    }
 
 pub returns-in_err-erase-clause-blames : goal.returns-in_err-erase-clause-blames
 returns-in_err-erase-clause-blames g c =

@@ -1,8 +1,15 @@
 use Rattle.std.proofs.Common.{length, refl}
 use Rattle.flash_device.specs.declared.flash.TheConstants.{BLANK}
-use Rattle.spare_sectors.specs.laws.UnitCells.{units_blank, units_elsewhere, units_filled, units_there}
-use Rattle.spare_sectors.specs.laws.UnitCells.{units_within, units_written}
+use Rattle.spare_sectors.specs.laws.UnitCells.{units_blank, units_elsewhere, units_filled, units_run}
+use Rattle.spare_sectors.specs.laws.UnitCells.{units_there, units_within, units_written}
 use Rattle.spare_sectors.proofs.spare_unit_calls.program_frame.Goals as goal
+
+pub program-requires-clause-run : goal.program-requires-clause-run
+program-requires-clause-run g c =
+    units_run g.D.SpareUnitDevice.SLOTS g.D.MapDevice.SECTORS g.D.SpareUnitDevice.SECTOR_FRAMES
+    g.D.MapDevice.SPARES g.met.D.SpareUnitDevice.sectors_fit (g.D.MapDevice.state c.args.device.now).map
+    c.args.at (length c.args.words.now) c.cell_at-cell.result c.requires.within c.requires.run
+    c.cell_at-cell.ensures.is
 
 pub program-requires-clause-units : goal.program-requires-clause-units
 program-requires-clause-units g c =

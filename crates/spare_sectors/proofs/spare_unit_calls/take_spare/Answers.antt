@@ -1,4 +1,4 @@
-use Rattle.std.proofs.Common.{◌≡◌, ◌⊎◌, ◌+◌, ◌*◌, ℕ, suc, List, refl, sym, subst, ap, inl, ◌∙◌, arith}
+use Rattle.std.proofs.Common.{◌≡◌, ◌+◌, ◌*◌, ℕ, suc, List, refl, sym, subst, ap, inl, inr, ⊎_elim, ◌∙◌, arith}
 use Rattle.flash_device.specs.declared.flash.TheConstants.{BLANK}
 use Rattle.flash_device.specs.FlashCalls.{AreFilled, SameElsewhere}
 use Rattle.flash_device.specs.FlashLogs.{find, slot_of}
@@ -9,7 +9,7 @@ use Rattle.spare_sectors.specs.laws.SpareImages.{lies_spare}
 use Rattle.spare_sectors.specs.laws.SpareSteps.{index_moved}
 use Rattle.spare_sectors.specs.laws.SpareTurns.{mark_blank, mark_either, mark_found, mark_leaves, mark_moves}
 use Rattle.spare_sectors.specs.laws.SpareTurns.{number_keeps, number_leaves, number_moves}
-use Rattle.spare_sectors.specs.laws.UnitCells.{either_units, kept_units, no_error, taken_others}
+use Rattle.spare_sectors.specs.laws.UnitCells.{kept_units, no_error, none_moves, taken_others}
 use Rattle.spare_sectors.specs.laws.UnitCells.{taken_units}
 use Rattle.spare_sectors.proofs.spare_unit_calls.take_spare.Goals as goal
 
@@ -53,14 +53,24 @@ returns-in_err-put_number-clause-counted g c =
     let size = 32 * g.D.SpareUnitDevice.SECTOR_FRAMES in
     let old = g.D.MapDevice.state c.args.device.now in
     let one = g.D.MapDevice.state c.put_number.new.device in
-    kept_units g.D.SpareUnitDevice.SLOTS g.D.MapDevice.SECTORS g.D.SpareUnitDevice.SECTOR_FRAMES
-    g.D.MapDevice.SPARES g.met.D.SpareUnitDevice.sectors_fit old.programs one.programs
-    old.map one.map c.args.sector c.args.entry c.requires.sector c.requires.below c.requires.free
-    (elsewhere_none old.programs one.programs (size * (2 * g.D.MapDevice.SECTORS + 1 + c.args.entry)) size
-    c.put_number.ensures.programs)
-    0 (number_keeps g.D.MapDevice.SPARES c.args.entry c.args.sector (slot_of 0 c.args.entry) _ _ c.requires.below
-    c.requires.free refl c.put_number.ensures.number c.args.sector)
-    c.requires.counted
+    let keeps = number_keeps g.D.MapDevice.SPARES c.args.entry c.args.sector (slot_of 0 c.args.entry) _ _
+    c.requires.below c.requires.free refl c.put_number.ensures.number in
+    record {
+      is = inr (
+        kept_units g.D.SpareUnitDevice.SLOTS g.D.MapDevice.SECTORS g.D.SpareUnitDevice.SECTOR_FRAMES
+            g.D.MapDevice.SPARES g.met.D.SpareUnitDevice.sectors_fit old.flash.words one.flash.words
+            old.map one.map c.args.sector c.args.entry c.requires.sector c.requires.below c.requires.free
+            (elsewhere_none old.flash.words one.flash.words (size * (2 * g.D.MapDevice.SECTORS + 1 + c.args.entry)) size
+            c.put_number.ensures.words)
+            keeps,
+        kept_units g.D.SpareUnitDevice.SLOTS g.D.MapDevice.SECTORS g.D.SpareUnitDevice.SECTOR_FRAMES
+            g.D.MapDevice.SPARES g.met.D.SpareUnitDevice.sectors_fit old.programs one.programs
+            old.map one.map c.args.sector c.args.entry c.requires.sector c.requires.below c.requires.free
+            (elsewhere_none old.programs one.programs (size * (2 * g.D.MapDevice.SECTORS + 1 + c.args.entry)) size
+            c.put_number.ensures.programs)
+            keeps,
+      );
+    }
 
 pub returns-in_err-erase-clause-free : goal.returns-in_err-erase-clause-free
 returns-in_err-erase-clause-free g c =
@@ -123,19 +133,34 @@ returns-in_err-erase-clause-counted g c =
     let old = g.D.MapDevice.state c.args.device.now in
     let one = g.D.MapDevice.state c.put_number.new.device in
     let two = g.D.MapDevice.state c.erase.new.self in
-    let change : SameElsewhere old.programs (size * (2 * g.D.MapDevice.SECTORS + 1 + c.args.entry)) size two.programs =
+    let words : SameElsewhere old.flash.words (size * (2 * g.D.MapDevice.SECTORS + 1 + c.args.entry)) size
+    two.flash.words =
+    subst (λ (l : List ℕ). SameElsewhere l (size * (2 * g.D.MapDevice.SECTORS + 1 + c.args.entry)) size
+    two.flash.words)
+    c.put_number.ensures.words
+    (subst (λ (k : ℕ). SameElsewhere one.flash.words (size * (2 * k + 1 + c.args.entry)) size two.flash.words)
+    c.SECTORS.ensures c.erase.ensures.elsewhere) in
+    let programs : SameElsewhere old.programs (size * (2 * g.D.MapDevice.SECTORS + 1 + c.args.entry)) size
+    two.programs =
     subst (λ (l : List ℕ). SameElsewhere l (size * (2 * g.D.MapDevice.SECTORS + 1 + c.args.entry)) size two.programs)
     c.put_number.ensures.programs
     (subst (λ (k : ℕ). SameElsewhere one.programs (size * (2 * k + 1 + c.args.entry)) size two.programs)
     c.SECTORS.ensures c.erase.ensures.others) in
-    let keeps : find two.map 0 g.D.MapDevice.SPARES c.args.sector ≡ find old.map 0 g.D.MapDevice.SPARES c.args.sector =
-    ap (λ (l : List ℕ). find l 0 g.D.MapDevice.SPARES c.args.sector) c.erase.ensures.map
+    let keeps = λ (t : ℕ). ap (λ (l : List ℕ). find l 0 g.D.MapDevice.SPARES t) c.erase.ensures.map
     ∙ number_keeps g.D.MapDevice.SPARES c.args.entry c.args.sector (slot_of 0 c.args.entry) _ _ c.requires.below
-    c.requires.free refl c.put_number.ensures.number c.args.sector in
-    kept_units g.D.SpareUnitDevice.SLOTS g.D.MapDevice.SECTORS g.D.SpareUnitDevice.SECTOR_FRAMES
-    g.D.MapDevice.SPARES g.met.D.SpareUnitDevice.sectors_fit old.programs two.programs
-    old.map two.map c.args.sector c.args.entry c.requires.sector c.requires.below c.requires.free
-    change 0 keeps c.requires.counted
+    c.requires.free refl c.put_number.ensures.number t in
+    record {
+      is = inr (
+        kept_units g.D.SpareUnitDevice.SLOTS g.D.MapDevice.SECTORS g.D.SpareUnitDevice.SECTOR_FRAMES
+            g.D.MapDevice.SPARES g.met.D.SpareUnitDevice.sectors_fit old.flash.words two.flash.words
+            old.map two.map c.args.sector c.args.entry c.requires.sector c.requires.below c.requires.free
+            words keeps,
+        kept_units g.D.SpareUnitDevice.SLOTS g.D.MapDevice.SECTORS g.D.SpareUnitDevice.SECTOR_FRAMES
+            g.D.MapDevice.SPARES g.met.D.SpareUnitDevice.sectors_fit old.programs two.programs
+            old.map two.map c.args.sector c.args.entry c.requires.sector c.requires.below c.requires.free
+            programs keeps,
+      );
+    }
 
 pub put_mark-requires-clause-blank : goal.put_mark-requires-clause-blank
 put_mark-requires-clause-blank g c =
@@ -228,28 +253,63 @@ returns-in_err-put_mark-clause-counted g c =
     let mark : SameElsewhere one.map (slot_of 0 c.args.entry + 18) 2 new.map =
     subst (λ (l : List ℕ). SameElsewhere l (slot_of 0 c.args.entry + 18) 2 new.map) c.erase.ensures.map
     c.put_mark.ensures.mark in
-    let change : SameElsewhere old.programs (size * (2 * g.D.MapDevice.SECTORS + 1 + c.args.entry)) size two.programs =
+    let words : SameElsewhere old.flash.words (size * (2 * g.D.MapDevice.SECTORS + 1 + c.args.entry)) size
+    two.flash.words =
+    subst (λ (l : List ℕ). SameElsewhere l (size * (2 * g.D.MapDevice.SECTORS + 1 + c.args.entry)) size
+    two.flash.words)
+    c.put_number.ensures.words
+    (subst (λ (k : ℕ). SameElsewhere one.flash.words (size * (2 * k + 1 + c.args.entry)) size two.flash.words)
+    c.SECTORS.ensures c.erase.ensures.elsewhere) in
+    let words_3 : SameElsewhere old.flash.words (size * (2 * g.D.MapDevice.SECTORS + 1 + c.args.entry)) size
+    new.flash.words =
+    subst (λ (l : List ℕ). SameElsewhere old.flash.words (size * (2 * g.D.MapDevice.SECTORS + 1 + c.args.entry)) size
+    l)
+    (sym c.put_mark.ensures.words) words in
+    let programs : SameElsewhere old.programs (size * (2 * g.D.MapDevice.SECTORS + 1 + c.args.entry)) size
+    two.programs =
     subst (λ (l : List ℕ). SameElsewhere l (size * (2 * g.D.MapDevice.SECTORS + 1 + c.args.entry)) size two.programs)
     c.put_number.ensures.programs
     (subst (λ (k : ℕ). SameElsewhere one.programs (size * (2 * k + 1 + c.args.entry)) size two.programs)
     c.SECTORS.ensures c.erase.ensures.others) in
-    let change_3 : SameElsewhere old.programs (size * (2 * g.D.MapDevice.SECTORS + 1 + c.args.entry)) size
+    let programs_3 : SameElsewhere old.programs (size * (2 * g.D.MapDevice.SECTORS + 1 + c.args.entry)) size
     new.programs =
     subst (λ (l : List ℕ). SameElsewhere old.programs (size * (2 * g.D.MapDevice.SECTORS + 1 + c.args.entry)) size l)
-    (sym c.put_mark.ensures.programs) change in
+    (sym c.put_mark.ensures.programs) programs in
     let filled : AreFilled new.programs (size * (2 * g.D.MapDevice.SECTORS + 1 + c.args.entry)) size 0 =
     subst (λ (l : List ℕ). AreFilled l (size * (2 * g.D.MapDevice.SECTORS + 1 + c.args.entry)) size 0)
     (sym c.put_mark.ensures.programs)
     (subst (λ (k : ℕ). AreFilled two.programs (size * (2 * k + 1 + c.args.entry)) size 0)
-    c.SECTORS.ensures c.erase.ensures.counted) in
-    either_units g.D.SpareUnitDevice.SLOTS g.D.MapDevice.SECTORS g.D.SpareUnitDevice.SECTOR_FRAMES
-    g.D.MapDevice.SPARES g.met.D.SpareUnitDevice.sectors_fit old.programs new.programs
-    old.map new.map c.args.sector c.args.entry c.requires.sector c.requires.below c.requires.free
-    change_3 0
+    c.SECTORS.ensures c.in_ok-erase.ensures.counted) in
+    ⊎_elim
+    (λ (kept : find new.map 0 g.D.MapDevice.SPARES c.args.sector ≡ find old.map 0 g.D.MapDevice.SPARES c.args.sector).
+    let keeps = none_moves g.D.MapDevice.SPARES old.map c.args.sector new.map
+    (mark_moves g.D.MapDevice.SPARES c.args.entry c.args.sector (slot_of 0 c.args.entry) _ _ c.requires.below
+    c.requires.free refl c.put_number.ensures.number
+    new.map c.in_ok-put_number.ensures.names mark)
+    kept in
+    record {
+      is = inr (
+        kept_units g.D.SpareUnitDevice.SLOTS g.D.MapDevice.SECTORS g.D.SpareUnitDevice.SECTOR_FRAMES
+            g.D.MapDevice.SPARES g.met.D.SpareUnitDevice.sectors_fit old.flash.words new.flash.words
+            old.map new.map c.args.sector c.args.entry c.requires.sector c.requires.below c.requires.free
+            words_3 keeps,
+        kept_units g.D.SpareUnitDevice.SLOTS g.D.MapDevice.SECTORS g.D.SpareUnitDevice.SECTOR_FRAMES
+            g.D.MapDevice.SPARES g.met.D.SpareUnitDevice.sectors_fit old.programs new.programs
+            old.map new.map c.args.sector c.args.entry c.requires.sector c.requires.below c.requires.free
+            programs_3 keeps,
+      );
+    })
+    (λ (found : find new.map 0 g.D.MapDevice.SPARES c.args.sector ≡ c.args.entry + 1).
+    record {
+      is = inl (
+          taken_units g.D.SpareUnitDevice.SLOTS g.D.MapDevice.SECTORS g.D.SpareUnitDevice.SECTOR_FRAMES
+          g.D.MapDevice.SPARES g.met.D.SpareUnitDevice.sectors_fit old.programs new.programs
+          old.map new.map c.args.sector c.args.entry c.requires.sector c.requires.below c.requires.free
+          programs_3 0 found filled);
+    })
     (mark_either g.D.MapDevice.SPARES c.args.entry c.args.sector (slot_of 0 c.args.entry) _ _ c.requires.below
     c.requires.free refl c.put_number.ensures.number
     new.map c.in_ok-put_number.ensures.names mark)
-    filled c.requires.counted
 
 pub returns-clause-free : goal.returns-clause-free
 returns-clause-free g c =
@@ -331,28 +391,32 @@ returns-clause-counted g c =
     let mark : SameElsewhere one.map (slot_of 0 c.args.entry + 18) 2 new.map =
     subst (λ (l : List ℕ). SameElsewhere l (slot_of 0 c.args.entry + 18) 2 new.map) c.erase.ensures.map
     c.put_mark.ensures.mark in
-    let change : SameElsewhere old.programs (size * (2 * g.D.MapDevice.SECTORS + 1 + c.args.entry)) size two.programs =
+    let programs : SameElsewhere old.programs (size * (2 * g.D.MapDevice.SECTORS + 1 + c.args.entry)) size
+    two.programs =
     subst (λ (l : List ℕ). SameElsewhere l (size * (2 * g.D.MapDevice.SECTORS + 1 + c.args.entry)) size two.programs)
     c.put_number.ensures.programs
     (subst (λ (k : ℕ). SameElsewhere one.programs (size * (2 * k + 1 + c.args.entry)) size two.programs)
     c.SECTORS.ensures c.erase.ensures.others) in
-    let change_3 : SameElsewhere old.programs (size * (2 * g.D.MapDevice.SECTORS + 1 + c.args.entry)) size
+    let programs_3 : SameElsewhere old.programs (size * (2 * g.D.MapDevice.SECTORS + 1 + c.args.entry)) size
     new.programs =
     subst (λ (l : List ℕ). SameElsewhere old.programs (size * (2 * g.D.MapDevice.SECTORS + 1 + c.args.entry)) size l)
-    (sym c.put_mark.ensures.programs) change in
+    (sym c.put_mark.ensures.programs) programs in
     let filled : AreFilled new.programs (size * (2 * g.D.MapDevice.SECTORS + 1 + c.args.entry)) size 0 =
     subst (λ (l : List ℕ). AreFilled l (size * (2 * g.D.MapDevice.SECTORS + 1 + c.args.entry)) size 0)
     (sym c.put_mark.ensures.programs)
     (subst (λ (k : ℕ). AreFilled two.programs (size * (2 * k + 1 + c.args.entry)) size 0)
-    c.SECTORS.ensures c.erase.ensures.counted) in
-    either_units g.D.SpareUnitDevice.SLOTS g.D.MapDevice.SECTORS g.D.SpareUnitDevice.SECTOR_FRAMES
-    g.D.MapDevice.SPARES g.met.D.SpareUnitDevice.sectors_fit old.programs new.programs
-    old.map new.map c.args.sector c.args.entry c.requires.sector c.requires.below c.requires.free
-    change_3 0
-    (mark_either g.D.MapDevice.SPARES c.args.entry c.args.sector (slot_of 0 c.args.entry) _ _ c.requires.below
+    c.SECTORS.ensures c.in_ok-erase.ensures.counted) in
+    let found : find new.map 0 g.D.MapDevice.SPARES c.args.sector ≡ c.args.entry + 1 =
+    mark_found g.D.MapDevice.SPARES c.args.entry c.args.sector (slot_of 0 c.args.entry) _ _ c.requires.below
     c.requires.free refl c.put_number.ensures.number
-    new.map c.in_ok-put_number.ensures.names mark)
-    filled c.requires.counted
+    new.map c.in_ok-put_number.ensures.names mark c.in_ok-put_mark.ensures.marked in
+    record {
+      is = inl (
+          taken_units g.D.SpareUnitDevice.SLOTS g.D.MapDevice.SECTORS g.D.SpareUnitDevice.SECTOR_FRAMES
+          g.D.MapDevice.SPARES g.met.D.SpareUnitDevice.sectors_fit old.programs new.programs
+          old.map new.map c.args.sector c.args.entry c.requires.sector c.requires.below c.requires.free
+          programs_3 0 found filled);
+    }
 
 pub returns-clause-done : goal.returns-clause-done
 returns-clause-done g c =
