@@ -11,3 +11,5 @@ mod renewals;
 mod sessions;
 #[cfg(test)]
 mod worn_sectors;
+#[cfg(test)]
+mod worn_units;
