@@ -96,9 +96,9 @@ module _ {T : Type 0} (pages slots sectors : ℕ) where
 
   module _ (start : ℕ → ℕ) where
     -- more slots may be given up
-    pub stands_more : (m : List ℕ) (extra more : ℕ) (p : PageMap T) → extra ≤ more
+    pub will_more : (m : List ℕ) (extra more : ℕ) (p : PageMap T) → extra ≤ more
         → WillKeepPace pages slots sectors start m extra p → WillKeepPace pages slots sectors start m more p
-    stands_more m extra more p le = ⊎_elim
+    will_more m extra more p le = ⊎_elim
         (λ (z : KeepsPace pages slots sectors extra p). inl (paced_more pages slots sectors extra more p le z))
         (λ (z : (p.ready ≡ false) × IsInPaceFrom pages slots sectors start m extra p.tried).
         inr (z.0, from_more pages slots sectors start m extra more p.tried le z.1))
@@ -118,7 +118,7 @@ module _ {T : Type 0} (pages slots sectors : ℕ) where
     failed_stands m extra more p le unready = ⊎_elim
         (λ (z : IsCaughtUp pages slots sectors extra p). absurd (true≢false (sym z.ready ∙ unready)))
         (λ (z : (p.ready ≡ false) × IsInPaceFrom pages slots sectors start m extra p.tried).
-        stands_more m extra more p le (inr z))
+        will_more m extra more p le (inr z))
 
     -- the step is taken, or it has failed
     pub stepped_stands : (m : List ℕ) (extra more : ℕ) (p : PageMap T) → extra ≤ more
@@ -128,7 +128,7 @@ module _ {T : Type 0} (pages slots sectors : ℕ) where
         (λ (z : HasStepped pages slots sectors extra p). inl (paced_more pages slots sectors extra more p le
         (stepped_paced pages slots sectors extra p z)))
         (λ (z : (p.ready ≡ false) × IsInPaceFrom pages slots sectors start m extra p.tried).
-        stands_more m extra more p le (inr z))
+        will_more m extra more p le (inr z))
 
     -- the step is taken
     pub stepped_on_caught : (m : List ℕ) (extra more : ℕ) (p : PageMap T) → extra ≤ more → p.ready ≡ true

@@ -4,7 +4,7 @@ use Rattle.flash_device.specs.PageTables.{AreFree}
 use Rattle.flash_log.specs.Paces.{IsCaughtUp, IsRoomy, KeepsPace, extra_of, failed_since, lead_of}
 use Rattle.flash_log.specs.Paces.{lost_since}
 use Rattle.flash_log.specs.laws.Ending.{HasTaken, all_taken, caught_on, ended_pace, failed_stands, found_far}
-use Rattle.flash_log.specs.laws.Ending.{looked_anew, stands_more, stepped_on_caught, stepped_stands}
+use Rattle.flash_log.specs.laws.Ending.{looked_anew, will_more, stepped_on_caught, stepped_stands}
 use Rattle.flash_log.specs.laws.Ending.{taken_more}
 use Rattle.flash_log.specs.laws.Lighting.{tries_faults}
 use Rattle.flash_log.specs.laws.Pacing.{paced_more}
@@ -20,7 +20,7 @@ returns-in_err-find_pages-clause-stands g c = λ extra roomy pace.
     let found = g.F.Flash.state c.find_pages.new.flash in
     let few : extra ≤ extra_of pages slots sectors = omega (arith, roomy) in
     let p = c.args.place.now in
-    stands_more pages slots sectors start found.words extra (extra + lost_since old found) c.find_pages.new.place
+    will_more pages slots sectors start found.words extra (extra + lost_since old found) c.find_pages.new.place
     (omega arith) (c.find_pages.ensures.stands extra few
     (looked_anew pages slots sectors start g.F.Table.PageTable.entries old.words extra p
     (record p { ready = false; tried = 0 }) c.requires.log refl refl pace))

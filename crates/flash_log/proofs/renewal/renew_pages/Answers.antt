@@ -1,6 +1,6 @@
 use Rattle.std.proofs.Common.{◌+◌, refl, arith}
 use Rattle.flash_log.specs.Paces.{HasFreeSlots, lead_of, lost_since}
-use Rattle.flash_log.specs.laws.Ending.{stands_more}
+use Rattle.flash_log.specs.laws.Ending.{will_more}
 use Rattle.flash_log.specs.laws.Lighting.{tries_faults}
 use Rattle.flash_log.specs.laws.Losing.{free_read, free_then}
 use Rattle.flash_log.proofs.renewal.renew_pages.Goals as goal
@@ -62,7 +62,7 @@ returns-in_err-leave_area-clause-stands g c = λ extra roomy pace.
     let sectors = g.F.Flash.SECTORS in
     let has : HasFreeSlots slots (lead_of pages sectors) mid.words =
     c.in_ok-end_move.ensures.room extra (omega (arith, roomy, less, more)) pace in
-    stands_more pages slots sectors g.F.Flash.sector_start new.words 0 (extra + lost_since old new)
+    will_more pages slots sectors g.F.Flash.sector_start new.words 0 (extra + lost_since old new)
     c.leave_area.new.place (omega arith) (c.leave_area.ensures.stands (omega (arith, roomy, less, more)) has)
 
 pub returns-in_err-leave_area-clause-calm : goal.returns-in_err-leave_area-clause-calm
@@ -107,7 +107,7 @@ returns-clause-stands g c = λ extra roomy pace.
     let sectors = g.F.Flash.SECTORS in
     let has : HasFreeSlots slots (lead_of pages sectors) mid.words =
     c.in_ok-end_move.ensures.room extra (omega (arith, roomy, less, more)) pace in
-    stands_more pages slots sectors g.F.Flash.sector_start new.words 0 (extra + lost_since old new)
+    will_more pages slots sectors g.F.Flash.sector_start new.words 0 (extra + lost_since old new)
     c.leave_area.new.place (omega arith) (c.leave_area.ensures.stands (omega (arith, roomy, less, more)) has)
 
 pub returns-clause-calm : goal.returns-clause-calm
