@@ -4,7 +4,7 @@ use Rattle.flash_log.specs.declared.place.PageMap.{PageMap}
 use Rattle.flash_log.specs.declared.flash_log.FlashFault.{FlashFault}
 use Rattle.flash_log.specs.declared.flash_log.FlashFault.TheVariants.{NoLog, PowerLost, Fault}
 use Rattle.flash_device.specs.FlashCalls.{FlashState, GoesOut, HasFailed}
-use Rattle.flash_log.specs.Paces.{LogState}
+use Rattle.flash_log.specs.Paces.{LogState, extra_slots, free_slots, is_fresh, is_paced}
 use Rattle.flash_device.specs.PageTables.{IsPageTable, AreFree}
 use Rattle.flash_device.specs.FlashLogs.{base_in, turn_of, words_of}
 use Rattle.flash_log.specs.Rings.{IsRing}
@@ -37,6 +37,19 @@ state_of pages slots s =
       erases = s.erases;
       kept = s.kept;
     }
+
+-- what contracts know of a log, by its flash and its place
+abbrev pub log_value : {T : Type 0} → ℕ → ℕ → ℕ → FlashState → PageMap T → LogState
+log_value pages slots sectors s p = record {
+  flash = state_of pages slots s;
+  paced = is_paced pages slots sectors p;
+  extra = extra_slots p;
+  ready = p.ready;
+  tried = p.tried;
+  fresh = is_fresh p;
+  free = free_slots slots p;
+  raw = s.words;
+}
 
 -- The log of a flash whose pages are not found yet.
 abbrev pub new_log : ℕ → ℕ → FlashState → LogState

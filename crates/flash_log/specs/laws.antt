@@ -8,5 +8,6 @@ pub mod Pacing
 pub mod Renewing
 pub mod Retrying
 pub mod Sparing
+pub mod TakingTurns
 pub mod Turns
 pub mod Writing

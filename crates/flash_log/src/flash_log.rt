@@ -37,21 +37,12 @@ pub struct FlashLog<F: Flash> {
 }
 
 impl<F: Flash> Model for FlashLog<F> {
-    ghost use Rattle.flash_log.specs.Paces.{LogState, extra_slots, free_slots, is_fresh, is_paced};
-    ghost use Rattle.flash_log.specs.Places.{IsLog, state_of};
+    ghost use Rattle.flash_log.specs.Paces.{LogState};
+    ghost use Rattle.flash_log.specs.Places.{IsLog, log_value};
 
     ghost Value = { LogState };
 
-    ghost view = { λ l. record {
-      flash = state_of F.PAGES F.SLOTS (F.state l.flash);
-      paced = is_paced F.PAGES F.SLOTS F.SECTORS l.place;
-      extra = extra_slots l.place;
-      ready = l.place.ready;
-      tried = l.place.tried;
-      fresh = is_fresh l.place;
-      free = free_slots F.SLOTS l.place;
-      raw = (F.state l.flash).words;
-    } };
+    ghost view = { λ l. log_value F.PAGES F.SLOTS F.SECTORS (F.state l.flash) l.place };
 
     ghost invariant = { λ l. IsLog F.Table.entries F.PAGES F.SLOTS F.SECTORS F.sector_start (F.state l.flash).words
         l.place };
@@ -59,10 +50,11 @@ impl<F: Flash> Model for FlashLog<F> {
 
 impl<F: Flash> FlashLog<F> {
     ghost use Rattle.flash_log.specs.Places.{FindsFree, OpenStopsBy, new_log, state_of};
-    ghost use Rattle.flash_device.specs.FlashLogs.{base_in, turn_of};
+    ghost use Rattle.flash_device.specs.FlashLogs.{base_in, find, turn_of};
     ghost use Rattle.flash_device.specs.PageTables.{AreFree};
     ghost use Rattle.flash_log.specs.Paces.{IsInPace, StandsInPace};
     ghost use Rattle.flash_log.specs.Rings.{IsRing};
+    ghost use Rattle.flash_log.specs.SlotsInTurn.{TakesInTurn, WillTake};
 
     /// The log of a flash that has one.
     pub fn new(flash: F) -> FlashLog<F>
@@ -125,8 +117,11 @@ impl<F: Flash> FlashLog<F> {
 
     /// Proves that the free slots that the log knows are blank.
     pub fn has_free(&self)
-        ensures { 0 < self.now.free → AreFree self.now.raw (base_in F.SLOTS (turn_of F.SLOTS self.now.raw))
+        ensures blank { 0 < self.now.free → AreFree self.now.raw (base_in F.SLOTS (turn_of F.SLOTS self.now.raw))
             (F.SLOTS - self.now.free) F.SLOTS }
+        // In pace the next write takes the first of them.
+        ensures next { self.now.paced ≡ true → 0 < self.now.free
+            → WillTake F.SLOTS self.now (F.SLOTS - self.now.free) }
     {
         let _ = &self.flash;
     }
@@ -203,6 +198,14 @@ impl<F: Flash> FlashLog<F> {
         ensures calm { lead_of F.PAGES F.SECTORS < self.old.free
             → self.new.flash.faults ≡ self.old.flash.faults
             → TakesSlot self.old.flash self.new.flash (self.old.paced ≡ true) self.old.free self.new.free result }
+        // As long as no step of a move is due, each try takes the next slot: a Fault takes one slot at most.
+        ensures slots { (n : ℕ)
+            → n + lead_of F.PAGES F.SECTORS + (self.new.flash.faults - self.old.flash.faults) < F.SLOTS
+            → WillTake F.SLOTS self.old n
+            → TakesInTurn F.SLOTS n (1 + (self.new.flash.faults - self.old.flash.faults)) self.old self.new }
+        // The record is in the last slot that isn't free.
+        ensures last { OnOk result (find self.new.raw (base_in F.SLOTS (turn_of F.SLOTS self.new.raw)) F.SLOTS page
+            ≡ F.SLOTS - self.new.free) }
         // A move in pace leaves all slots free but one for each page and each step, and those of power losses.
         ensures regains { OnOk result ((extra : ℕ) → IsRoomy F.PAGES F.SLOTS F.SECTORS extra
             → self.new.flash.faults ≡ self.old.flash.faults → self.old.paced ≡ true → self.old.extra ≤ extra

@@ -1,15 +1,16 @@
 //! The steps of a read and a write of the log.
-ghost use Rattle.std.specs.Prelude.{◌≡◌, ◌⊎◌, ◌<◌, ◌≤◌, ◌+◌, ◌*◌, ℕ, true, false, length, slice_index, IfOk, OnOk};
-ghost use Rattle.std.specs.Prelude.{OnErr};
+ghost use Rattle.std.specs.Prelude.{◌≡◌, ◌⊎◌, ◌<◌, ◌≤◌, ◌+◌, ◌-◌, ◌*◌, ℕ, true, false, length, slice_index};
+ghost use Rattle.std.specs.Prelude.{IfOk, OnErr, OnOk};
 ghost use Rattle.nvm_board.specs.History.{written};
 ghost use Rattle.flash_device.specs.FlashCalls.{Costs, Lights, Tries};
-ghost use Rattle.flash_device.specs.FlashLogs.{base_in, turn_of, words_of};
+ghost use Rattle.flash_device.specs.FlashLogs.{base_in, find, turn_of, words_of};
 ghost use Rattle.flash_device.specs.PageTables.{AreFree, IsPageTable};
 ghost use Rattle.flash_log.specs.Paces.{CopiesNoPageAt, HasStepped, HasMoved, HasNoStepDue, IsInPace, IsRoomy};
 ghost use Rattle.flash_log.specs.Paces.{KeepsFree, KeepsPace, MovesFound, MovesWell, Pauses, RegainsSlots, TakesSlot};
 ghost use Rattle.flash_log.specs.Paces.{IsBeforeMove, IsCaughtUp, WillKeepPace, extra_of, extra_slots, free_slots};
 ghost use Rattle.flash_log.specs.Paces.{StandsSo, failed_since, is_fresh, lead_of, lost_since};
-ghost use Rattle.flash_log.specs.Places.{FindsFree, IsLog, IsPlaceOf};
+ghost use Rattle.flash_log.specs.Places.{FindsFree, IsLog, IsPlaceOf, log_value};
+ghost use Rattle.flash_log.specs.SlotsInTurn.{FindsNext, IsNextSlot, TakesInTurn, WillTake};
 ghost use Rattle.flash_area.specs.HeldPages.{HavePages};
 ghost use Rattle.flash_area.specs.Spares.{IsSpare, KeepsSectors, KeepsSteps, copies_most};
 ghost use Rattle.flash_log.specs.Renewals.{HasLastMark};
@@ -97,6 +98,9 @@ pub fn find_pages<F: Flash>(flash: &mut F, place: &mut PageMap<F::Table>) -> Res
     ensures known { place.old.ready ≡ true → place.new ≡ place.old }
     ensures found { OnOk result (place.old.ready ≡ false → place.old.tried ≡ 0
         → FindsFree F.SLOTS (F.state flash.old).words (free_slots F.SLOTS place.new)) }
+    ensures tried { place.new.tried ≡ place.old.tried }
+    ensures next { OnOk result (place.old.ready ≡ false → (n : ℕ) → n < F.SLOTS
+        → IsNextSlot F.SLOTS (F.state flash.old).words place.old.tried n → place.new.next ≡ n) }
     ensures looks { is_fresh place.old ≡ true → (is_fresh place.new ≡ true)
         ⊎ FindsFree F.SLOTS (F.state flash.old).words (free_slots F.SLOTS place.new) }
     ensures paced { (extra : ℕ) → place.old.ready ≡ false → lead_of F.PAGES F.SECTORS < free_slots F.SLOTS place.new
@@ -154,6 +158,10 @@ fn catch_up<F: Flash>(flash: &mut F, place: &mut PageMap<F::Table>) -> Result<()
         → IsInPace F.PAGES F.SLOTS F.SECTORS F.sector_start (F.state flash.new).words extra }
     ensures idle { place.old.ready ≡ true → place.old.copied ≡ 0
         → (F.state flash.new).operations ≡ (F.state flash.old).operations }
+    ensures turns { (n : ℕ) → n + lead_of F.PAGES F.SECTORS < F.SLOTS
+        → WillTake F.SLOTS (log_value F.PAGES F.SLOTS F.SECTORS (F.state flash.old) place.old) n
+        → FindsNext F.SLOTS n (log_value F.PAGES F.SLOTS F.SECTORS (F.state flash.old) place.old)
+        (log_value F.PAGES F.SLOTS F.SECTORS (F.state flash.new) place.new) }
     ensures light { Tries 1 (F.state flash.old) (F.state flash.new) result }
     ensures work { Costs 2 2 (F.state flash.old) (F.state flash.new) }
     ensures erases { (F.state flash.new).erases ≡ (F.state flash.old).erases }
@@ -245,6 +253,10 @@ fn prepare<F: Flash>(flash: &mut F, place: &mut PageMap<F::Table>) -> Result<(),
         → (n : ℕ) → FindsFree F.SLOTS (F.state flash.old).words n → MovesFound F.PAGES F.SLOTS extra n place.new) }
     ensures idle { place.old.ready ≡ true → place.old.next + lead_of F.PAGES F.SECTORS < F.SLOTS
         → HasNoStepDue (F.state flash.old) (F.state flash.new) place.old place.new }
+    ensures turns { (n : ℕ) → n + lead_of F.PAGES F.SECTORS < F.SLOTS
+        → WillTake F.SLOTS (log_value F.PAGES F.SLOTS F.SECTORS (F.state flash.old) place.old) n
+        → FindsNext F.SLOTS n (log_value F.PAGES F.SLOTS F.SECTORS (F.state flash.old) place.old)
+        (log_value F.PAGES F.SLOTS F.SECTORS (F.state flash.new) place.new) }
     ensures lost { (extra : ℕ) → IsRoomy F.PAGES F.SLOTS F.SECTORS extra
         → (F.state flash.new).faults ≡ (F.state flash.old).faults
         → WillKeepPace F.PAGES F.SLOTS F.SECTORS F.sector_start (F.state flash.old).words extra place.old
@@ -328,6 +340,13 @@ fn write_once<F: Flash>(
         → (F.state flash.new).faults ≡ (F.state flash.old).faults
         → TakesSlot (F.state flash.old) (F.state flash.new) (place.old.copied ≡ 0) (free_slots F.SLOTS place.old)
         (free_slots F.SLOTS place.new) result }
+    ensures slots { (n : ℕ) → n + lead_of F.PAGES F.SECTORS < F.SLOTS
+        → WillTake F.SLOTS (log_value F.PAGES F.SLOTS F.SECTORS (F.state flash.old) place.old) n
+        → TakesInTurn F.SLOTS n 1 (log_value F.PAGES F.SLOTS F.SECTORS (F.state flash.old) place.old)
+        (log_value F.PAGES F.SLOTS F.SECTORS (F.state flash.new) place.new) }
+    ensures last { OnOk result (find (F.state flash.new).words
+        (base_in F.SLOTS (turn_of F.SLOTS (F.state flash.new).words)) F.SLOTS page
+        ≡ F.SLOTS - free_slots F.SLOTS place.new) }
     ensures regains { OnOk result ((extra : ℕ) → IsRoomy F.PAGES F.SLOTS F.SECTORS extra
         → (F.state flash.new).faults ≡ (F.state flash.old).faults
         → KeepsPace F.PAGES F.SLOTS F.SECTORS extra place.old
@@ -400,6 +419,15 @@ pub fn write_at<F: Flash>(
         → (F.state flash.new).faults ≡ (F.state flash.old).faults
         → TakesSlot (F.state flash.old) (F.state flash.new) (place.old.copied ≡ 0) (free_slots F.SLOTS place.old)
         (free_slots F.SLOTS place.new) result }
+    ensures slots { (n : ℕ)
+        → n + lead_of F.PAGES F.SECTORS + ((F.state flash.new).faults - (F.state flash.old).faults) < F.SLOTS
+        → WillTake F.SLOTS (log_value F.PAGES F.SLOTS F.SECTORS (F.state flash.old) place.old) n
+        → TakesInTurn F.SLOTS n (1 + ((F.state flash.new).faults - (F.state flash.old).faults))
+        (log_value F.PAGES F.SLOTS F.SECTORS (F.state flash.old) place.old)
+        (log_value F.PAGES F.SLOTS F.SECTORS (F.state flash.new) place.new) }
+    ensures last { OnOk result (find (F.state flash.new).words
+        (base_in F.SLOTS (turn_of F.SLOTS (F.state flash.new).words)) F.SLOTS page
+        ≡ F.SLOTS - free_slots F.SLOTS place.new) }
     ensures regains { OnOk result ((extra : ℕ) → IsRoomy F.PAGES F.SLOTS F.SECTORS extra
         → (F.state flash.new).faults ≡ (F.state flash.old).faults
         → KeepsPace F.PAGES F.SLOTS F.SECTORS extra place.old

@@ -3,7 +3,7 @@ ghost use Rattle.std.specs.Prelude.{◌≡◌, ◌⊎◌, ◌<◌, ◌≤◌, �
 ghost use Rattle.nvm_board.specs.History.{written};
 ghost use Rattle.flash_device.specs.FlashCalls.{Costs, Lights, SameElsewhere, Tries};
 ghost use Rattle.flash_device.specs.PageTables.{IsPageTable, AreFree};
-ghost use Rattle.flash_device.specs.FlashLogs.{base_in, find, turn_of, words_of};
+ghost use Rattle.flash_device.specs.FlashLogs.{base_in, find, slot_of, turn_of, words_of};
 ghost use Rattle.flash_log.specs.Paces.{IsCaughtUp, IsInPace, IsRoomy, KeepsPace, StandsSo, failed_since, lost_since};
 ghost use Rattle.flash_log.specs.Places.{IsLog};
 ghost use Rattle.flash_log.specs.Rings.{SameMarks};
@@ -40,8 +40,9 @@ pub fn write_run<F: Flash>(
     ensures index { OnOk result (IsPageTable F.PAGES (F.state flash.new).words (base_in F.SLOTS area) F.SLOTS
         (F.Table.entries table.new)) }
     ensures free { AreFree (F.state flash.new).words (base_in F.SLOTS area) (next + 1) F.SLOTS }
-    ensures elsewhere { SameElsewhere (F.state flash.old).words (base_in F.SLOTS area) (20 * F.SLOTS)
+    ensures elsewhere { SameElsewhere (F.state flash.old).words (slot_of (base_in F.SLOTS area) next) 20
         (F.state flash.new).words }
+    ensures last { OnOk result (find (F.state flash.new).words (base_in F.SLOTS area) F.SLOTS page ≡ next + 1) }
     ensures marks { SameMarks F.SLOTS (F.state flash.old).words (F.state flash.new).words }
     // A page that the area has stays there.
     ensures held { (p : ℕ) → find (F.state flash.new).words (base_in F.SLOTS area) F.SLOTS p ≡ 0

@@ -181,3 +181,12 @@ module _ (pages slots : ℕ) where
         → IsPageTable pages after (base_in slots area) slots (slice_set table page (s + 1))
     run_index table all index puts put =
         put_index m after area s puts.elsewhere below home are words page size within names put table all index
+
+    -- the record is the page's last
+    pub run_last : PutsInSlot m (slot_of (base_in slots area) s) words after
+        → IsPut after (slot_of (base_in slots area) s) words → find after (base_in slots area) slots page ≡ s + 1
+    run_last puts put =
+        let base = base_in slots area in
+        let past = behind m after area s puts.elsewhere below home are words page size within names put in
+        let last = put_found m after base s puts.elsewhere words slots page size below names past put in
+        omega (arith, last)

@@ -7,6 +7,7 @@ use Rattle.flash_device.specs.PageTables.{AreFree}
 use Rattle.flash_log.specs.Paces.{IsInPace, KeepsPace, lost_since}
 use Rattle.flash_log.specs.Places.{FindsFree}
 use Rattle.flash_log.specs.laws.Losing.{before_found, none_copied, stands_in_pace}
+use Rattle.flash_log.specs.laws.TakingTurns.{found_next, lost_next, still_next, was_lost}
 use Rattle.flash_log.specs.laws.Pacing.{caught_more, free_of, from_more, lost_so, place_in_pace, stands_more}
 use Rattle.flash_log.proofs.steps.catch_up.Goals as goal
 
@@ -134,3 +135,38 @@ returns-clause-idle g c = λ ready none.
     let same = c.find_pages.ensures.known ready in
     let still = (c.copy_older.ensures.idle (ap (λ (z : PageMap _). z.copied) same ∙ none)).1 in
     ap (λ (f : FlashState). f.operations) still ∙ c.find_pages.ensures.work
+
+pub returns-in_err-find_pages-clause-turns : goal.returns-in_err-find_pages-clause-turns
+returns-in_err-find_pages-clause-turns g c = λ n far takes.
+    let slots = g.F.Flash.SLOTS in
+    let pages = g.F.Flash.PAGES in
+    let sectors = g.F.Flash.SECTORS in
+    let old = g.F.Flash.state c.args.flash.now in
+    let mid = g.F.Flash.state c.find_pages.new.flash in
+    let p = c.args.place.now in
+    let q = c.find_pages.new.place in
+    let lost = c.in_err-find_pages.ensures.unready in
+    lost_next pages slots sectors old mid p q n (was_lost pages slots sectors p q lost c.find_pages.ensures.known) lost
+    c.find_pages.ensures.tried c.find_pages.ensures.words c.find_pages.ensures.work c.find_pages.ensures.erases takes
+
+pub returns-clause-turns : goal.returns-clause-turns
+returns-clause-turns g c = λ n far takes.
+    let slots = g.F.Flash.SLOTS in
+    let pages = g.F.Flash.PAGES in
+    let sectors = g.F.Flash.SECTORS in
+    let old = g.F.Flash.state c.args.flash.now in
+    let mid = g.F.Flash.state c.find_pages.new.flash in
+    let new = g.F.Flash.state c.copy_older.new.flash in
+    let p = c.args.place.now in
+    let q = c.find_pages.new.place in
+    let there = c.in_ok-find_pages.ensures.ready in
+    let known = c.find_pages.ensures.log.known there in
+    let free : AreFree old.words (base_in slots (turn_of slots old.words)) q.next slots =
+    subst (λ (l : List ℕ). AreFree l (base_in slots (turn_of slots l)) q.next slots) c.find_pages.ensures.words
+    (subst (λ (t : ℕ). AreFree mid.words (base_in slots t) q.next slots) known.turn known.free) in
+    let found = found_next pages slots sectors old mid p q n there c.find_pages.ensures.words c.find_pages.ensures.work
+    c.find_pages.ensures.erases free c.find_pages.ensures.known
+    (λ unready next. c.in_ok-find_pages.ensures.next unready n (omega (arith, far)) next)
+    (c.find_pages.ensures.paced 0) far takes in
+    let still = c.copy_older.ensures.idle found.1 in
+    still_next pages slots sectors old mid new p q c.copy_older.new.place n still.0 still.1 found.0

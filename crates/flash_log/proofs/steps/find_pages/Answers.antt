@@ -63,6 +63,41 @@ returns-clause-found g c = λ unready none.
     let next = c.later-next.ensures.none (omega (arith, none)) in
     record { all = λ s are. let least = first.first s are in omega (arith, least, next) }
 
+pub returns-then-place-clause-next : goal.returns-then-place-clause-next
+returns-then-place-clause-next g c = λ unready. absurd (true≢false (sym c.if-place.true ∙ unready))
+
+pub returns-clause-next : goal.returns-clause-next
+returns-clause-next g c = λ unready n below is.
+    let slots = g.F.Flash.SLOTS in
+    let m = (g.F.Flash.state c.args.flash.now).words in
+    let tried = c.args.place.now.tried in
+    let next = c.later-next.result in
+    let base : base_in slots c.home.result ≡ base_in slots (turn_of slots m) =
+    c.home.ensures.is slots ∙ ap (λ (t : ℕ). base_in slots t) c.in_ok-turn.ensures.turn in
+    let first : IsFirstFreeSlot m (base_in slots (turn_of slots m)) c.in_ok-first.first slots =
+    subst (λ (b : ℕ). IsFirstFreeSlot m b c.in_ok-first.first slots) base
+    (subst (λ (l : List ℕ). IsFirstFreeSlot l (base_in slots c.home.result) c.in_ok-first.first slots)
+    c.find_turn.ensures.words c.in_ok-first.ensures.first) in
+    let free : AreFree m (base_in slots (turn_of slots m)) c.in_ok-first.first slots =
+    subst (λ (b : ℕ). AreFree m b c.in_ok-first.first slots) base
+    (subst (λ (l : List ℕ). AreFree l (base_in slots c.home.result) c.in_ok-first.first slots)
+    c.find_turn.ensures.words c.in_ok-first.ensures.free) in
+    let found = first.first n is.free in
+    let passed = is.passed in
+    let least : next ≤ n = ⊎_elim
+    (λ (lt : c.in_ok-first.first < tried).
+    let same = c.later-next.ensures.is (omega (arith, passed, below)) (omega (arith, lt)) in
+    omega (arith, same, passed))
+    (λ (le : tried ≤ c.in_ok-first.first). let same = c.later-next.ensures.none le in omega (arith, same, found))
+    (cases_lt c.in_ok-first.first tried) in
+    let after : tried ≤ next = ⊎_elim
+    (λ (le : tried ≤ next). le)
+    (λ (e : next ≡ slots). omega (arith, e, passed, below))
+    c.later-next.ensures.passed in
+    let most = is.first next (free_later m (base_in slots (turn_of slots m)) c.in_ok-first.first next slots free
+    c.later-next.ensures.least c.later-next.ensures.most) after in
+    omega (arith, least, most)
+
 pub returns-then-place-clause-looks : goal.returns-then-place-clause-looks
 returns-then-place-clause-looks g c = λ fresh. inl fresh
 

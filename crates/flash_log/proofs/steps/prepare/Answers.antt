@@ -1,14 +1,17 @@
-use Rattle.std.proofs.Common.{◌<◌, ◌≤◌, ◌+◌, ◌∙◌, refl, sym, ap, subst, inl, inr, ⊎_elim, arith}
+use Rattle.std.proofs.Common.{◌<◌, ◌≤◌, ◌+◌, ◌∙◌, ℕ, refl, sym, ap, subst, inl, inr, ⊎_elim, arith}
 use Rattle.std.proofs.lemmas.Bool.{cases_lt}
 use Rattle.flash_log.specs.laws.Lighting.{tries_faults}
 use Rattle.flash_log.specs.declared.place.PageMap.{PageMap}
 use Rattle.flash_device.specs.FlashCalls.{FlashState}
+use Rattle.flash_device.specs.FlashLogs.{base_in}
+use Rattle.flash_device.specs.PageTables.{AreFree}
 use Rattle.flash_log.specs.Paces.{IsBeforeMove, IsBrief, IsCaughtUp, WillKeepPace}
 use Rattle.flash_log.specs.Paces.{failed_since, free_slots, is_fresh, lost_since}
 use Rattle.flash_log.specs.laws.Pacing.{caught_more, failed_not_ok, lost_so, none_due, ready_brief, ready_caught}
 use Rattle.flash_log.specs.laws.Pacing.{ready_found, ready_in_pace, ready_moves, ready_stands, ready_stays}
 use Rattle.flash_log.specs.laws.Pacing.{ready_stepped, ready_stood, stepped_fresh, stepped_more}
 use Rattle.flash_log.specs.laws.Losing.{ready_lost, step_lost}
+use Rattle.flash_log.specs.laws.TakingTurns.{next_is, still_next}
 use Rattle.flash_log.proofs.steps.prepare.Goals as goal
 
 pub returns-in_err-catch_up-clause-pause : goal.returns-in_err-catch_up-clause-pause
@@ -459,3 +462,73 @@ returns-clause-stands g c = λ extra roomy stands.
     (c.catch_up.ensures.stands extra) ready power c.take_step.ensures.stands rise
     (omega (arith, roomy, most)) there more.due last t
     c.make_room.ensures.same stands
+
+pub returns-in_err-catch_up-clause-turns : goal.returns-in_err-catch_up-clause-turns
+returns-in_err-catch_up-clause-turns g c = λ n far takes. c.catch_up.ensures.turns n far takes
+
+pub returns-in_err-take_step-clause-turns : goal.returns-in_err-take_step-clause-turns
+returns-in_err-take_step-clause-turns g c = λ n far takes.
+    let slots = g.F.Flash.SLOTS in
+    let pages = g.F.Flash.PAGES in
+    let sectors = g.F.Flash.SECTORS in
+    let old = g.F.Flash.state c.args.flash.now in
+    let found = g.F.Flash.state c.catch_up.new.flash in
+    let p = c.args.place.now in
+    let q = c.catch_up.new.place in
+    let stepped = g.F.Flash.state c.take_step.new.flash in
+    let s = c.take_step.new.place in
+    let ready = c.in_ok-catch_up.ensures.ready in
+    let known = c.catch_up.ensures.log.known ready in
+    let first = c.catch_up.ensures.turns n far takes in
+    let next = next_is pages slots sectors found q n ready
+    (subst (λ (t : ℕ). AreFree found.words (base_in slots t) q.next slots) known.turn known.free) first.takes in
+    let still = c.take_step.ensures.idle (omega (arith, next, far)) in
+    still_next pages slots sectors old found stepped p q s n still.0 still.1 first
+
+pub returns-in_err-make_room-clause-turns : goal.returns-in_err-make_room-clause-turns
+returns-in_err-make_room-clause-turns g c = λ n far takes.
+    let slots = g.F.Flash.SLOTS in
+    let pages = g.F.Flash.PAGES in
+    let sectors = g.F.Flash.SECTORS in
+    let old = g.F.Flash.state c.args.flash.now in
+    let found = g.F.Flash.state c.catch_up.new.flash in
+    let p = c.args.place.now in
+    let q = c.catch_up.new.place in
+    let stepped = g.F.Flash.state c.take_step.new.flash in
+    let s = c.take_step.new.place in
+    let ready = c.in_ok-catch_up.ensures.ready in
+    let known = c.catch_up.ensures.log.known ready in
+    let first = c.catch_up.ensures.turns n far takes in
+    let next = next_is pages slots sectors found q n ready
+    (subst (λ (t : ℕ). AreFree found.words (base_in slots t) q.next slots) known.turn known.free) first.takes in
+    let still = c.take_step.ensures.idle (omega (arith, next, far)) in
+    let last = g.F.Flash.state c.make_room.new.flash in
+    let t = c.make_room.new.place in
+    let here : s.next < slots =
+    let as_found = ap (λ (z : PageMap _). z.next) still.0 in omega (arith, as_found, next, far) in
+    let room = c.make_room.ensures.same here in
+    still_next pages slots sectors old found last p q t n (room.0 ∙ still.0) (room.1 ∙ still.1) first
+
+pub returns-clause-turns : goal.returns-clause-turns
+returns-clause-turns g c = λ n far takes.
+    let slots = g.F.Flash.SLOTS in
+    let pages = g.F.Flash.PAGES in
+    let sectors = g.F.Flash.SECTORS in
+    let old = g.F.Flash.state c.args.flash.now in
+    let found = g.F.Flash.state c.catch_up.new.flash in
+    let p = c.args.place.now in
+    let q = c.catch_up.new.place in
+    let stepped = g.F.Flash.state c.take_step.new.flash in
+    let s = c.take_step.new.place in
+    let ready = c.in_ok-catch_up.ensures.ready in
+    let known = c.catch_up.ensures.log.known ready in
+    let first = c.catch_up.ensures.turns n far takes in
+    let next = next_is pages slots sectors found q n ready
+    (subst (λ (t : ℕ). AreFree found.words (base_in slots t) q.next slots) known.turn known.free) first.takes in
+    let still = c.take_step.ensures.idle (omega (arith, next, far)) in
+    let last = g.F.Flash.state c.make_room.new.flash in
+    let t = c.make_room.new.place in
+    let here : s.next < slots =
+    let as_found = ap (λ (z : PageMap _). z.next) still.0 in omega (arith, as_found, next, far) in
+    let room = c.make_room.ensures.same here in
+    still_next pages slots sectors old found last p q t n (room.0 ∙ still.0) (room.1 ∙ still.1) first

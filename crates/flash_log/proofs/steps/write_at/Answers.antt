@@ -1,4 +1,4 @@
-use Rattle.std.proofs.Common.{◌≡◌, ◌≤◌, ◌+◌, ◌*◌, ℕ, length, Err, refl, sym, ap, inl, ◌∙◌, true≢false, arith}
+use Rattle.std.proofs.Common.{◌≡◌, ◌≤◌, ◌+◌, ◌-◌, ◌*◌, ℕ, length, Err, refl, sym, ap, inl, ◌∙◌, true≢false, arith}
 use Rattle.std.proofs.lemmas.Result.{on_ok_weaker}
 use Rattle.flash_device.specs.FlashLogs.{words_of}
 use Rattle.flash_log.specs.declared.place.PageMap.{PageMap}
@@ -9,6 +9,7 @@ use Rattle.flash_log.specs.Places.{FindsFree}
 use Rattle.flash_log.specs.laws.Lighting.{failed_costs, last_costs, tries_faults}
 use Rattle.flash_log.specs.laws.Pacing.{holds_since, holds_still, paced_more, stands_more, takes_since}
 use Rattle.flash_log.specs.laws.Retrying.{failed_again, pauses_again, stands_again, stands_failed}
+use Rattle.flash_log.specs.laws.TakingTurns.{takes_again, takes_more, takes_none}
 use Rattle.flash_area.specs.laws.Words.{length-words}
 use Rattle.flash_log.specs.laws.Writing.{whole_again, done_again}
 use Rattle.flash_log.proofs.steps.write_at.Goals as goal
@@ -29,6 +30,7 @@ loop-init g c = record {
       (omega arith));
   brief = λ extra roomy pace. (omega arith, omega arith);
   log = c.requires.log;
+  turns = λ n far takes. takes_more g.F.Flash.SLOTS n 0 _ _ _ (omega arith) (takes_none g.F.Flash.SLOTS n _ takes);
   whole = inl refl;
 }
 
@@ -76,6 +78,14 @@ loop-preserved g c =
           ((c.write_once.ensures.pause (extra + failed_since old tried) (omega (arith, roomy, less, more))).short
           (was.stood extra (omega (arith, roomy, less, more)) pace));
       log = c.write_once.ensures.log;
+      turns = λ n.
+          let old = g.F.Flash.state c.args.flash.now in
+          let tried = g.F.Flash.state c.loop.flash in
+          let new = g.F.Flash.state c.write_once.new.flash in
+          let less = was.steady.faults in
+          takes_again pages slots g.F.Flash.SECTORS old tried new c.args.place.now c.loop.place c.write_once.new.place n
+          (new.faults - old.faults) less (omega (arith, more)) (omega (arith, less, more)) (was.turns n)
+          c.write_once.ensures.slots;
       whole = whole_again m mid after c.args.words.now at fits was.whole c.write_once.ensures.whole;
     }
 
@@ -430,3 +440,39 @@ returns-in-Err-PowerLost-clause-stands g c = λ extra roomy pace.
     stands_again pages slots sectors extra start old mid new less more c.write_once.new.place was.steady.due
     (c.write_once.ensures.stands (extra + failed_since old mid) (omega (arith, roomy, less, more))
     (was.stood extra (omega (arith, roomy, less, more)) pace))
+
+pub returns-clause-slots : goal.returns-clause-slots
+returns-clause-slots g c = λ n.
+    let old = g.F.Flash.state c.args.flash.now in
+    let mid = g.F.Flash.state c.loop.flash in
+    let new = g.F.Flash.state c.write_once-2.new.flash in
+    let was = c.loop.invariant in
+    let less = was.steady.faults in
+    let more = tries_faults 1 mid new c.write_once-2.result c.write_once-2.ensures.light in
+    takes_again g.F.Flash.PAGES g.F.Flash.SLOTS g.F.Flash.SECTORS old mid new c.args.place.now c.loop.place
+    c.write_once-2.new.place n (1 + (new.faults - old.faults)) less more (omega (arith, less, more)) (was.turns n)
+    c.write_once-2.ensures.slots
+
+pub returns-in-Ok-clause-slots : goal.returns-in-Ok-clause-slots
+returns-in-Ok-clause-slots g c = λ n.
+    let old = g.F.Flash.state c.args.flash.now in
+    let mid = g.F.Flash.state c.loop.flash in
+    let new = g.F.Flash.state c.write_once.new.flash in
+    let was = c.loop.invariant in
+    let less = was.steady.faults in
+    let more = tries_faults 1 mid new c.write_once.result c.write_once.ensures.light in
+    takes_again g.F.Flash.PAGES g.F.Flash.SLOTS g.F.Flash.SECTORS old mid new c.args.place.now c.loop.place
+    c.write_once.new.place n (1 + (new.faults - old.faults)) less more (omega (arith, less, more)) (was.turns n)
+    c.write_once.ensures.slots
+
+pub returns-in-Err-PowerLost-clause-slots : goal.returns-in-Err-PowerLost-clause-slots
+returns-in-Err-PowerLost-clause-slots g c = λ n.
+    let old = g.F.Flash.state c.args.flash.now in
+    let mid = g.F.Flash.state c.loop.flash in
+    let new = g.F.Flash.state c.write_once.new.flash in
+    let was = c.loop.invariant in
+    let less = was.steady.faults in
+    let more = tries_faults 1 mid new c.write_once.result c.write_once.ensures.light in
+    takes_again g.F.Flash.PAGES g.F.Flash.SLOTS g.F.Flash.SECTORS old mid new c.args.place.now c.loop.place
+    c.write_once.new.place n (1 + (new.faults - old.faults)) less more (omega (arith, less, more)) (was.turns n)
+    c.write_once.ensures.slots

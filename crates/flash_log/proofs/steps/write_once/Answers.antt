@@ -1,15 +1,17 @@
-use Rattle.std.proofs.Common.{◌≡◌, ◌⊎◌, ◌<◌, ◌≤◌, ◌+◌, ◌*◌, ℕ, List, refl, sym, ap, subst, inl, inr, ⊎_elim, ◌∙◌}
+use Rattle.std.proofs.Common.{◌≡◌, ◌⊎◌, ◌<◌, ◌≤◌, ◌+◌, ◌-◌, ◌*◌, ℕ, List, refl, sym, ap, subst, inl, inr, ⊎_elim, ◌∙◌}
 use Rattle.std.proofs.Common.{arith, true≢false}
 use Rattle.nvm_board.specs.History.{written}
 use Rattle.flash_device.specs.FlashBlocks.{steps_of}
 use Rattle.flash_device.specs.FlashCalls.{SameElsewhere}
-use Rattle.flash_device.specs.FlashLogs.{base_in, find, words_of}
+use Rattle.flash_device.specs.FlashLogs.{base_in, find, slot_of, words_of}
 use Rattle.flash_device.specs.PageTables.{IsPageTable, AreFree}
-use Rattle.flash_log.specs.Paces.{HasStepped, IsBrief, failed_since, lead_of, lost_since}
+use Rattle.flash_log.specs.Paces.{HasStepped, IsBrief, extra_slots, failed_since, lead_of, lost_since}
 use Rattle.flash_log.specs.laws.Catching.{run_in_pace, run_spare}
 use Rattle.flash_log.specs.laws.Lighting.{lights_faults}
 use Rattle.flash_log.specs.laws.Pacing.{failed_not_ok, free_known, free_of, paced_put, short_then, stands_more}
 use Rattle.flash_log.specs.laws.Pacing.{stepped_more, stepped_paced}
+use Rattle.flash_log.specs.laws.TakingTurns.{far_stepped, finds_takes, found_takes, next_behind, next_is, put_in_area}
+use Rattle.flash_log.specs.laws.TakingTurns.{put_takes, takes_pace, tried_takes}
 use Rattle.flash_log.specs.laws.Turns.{turn_same, ring_same}
 use Rattle.flash_log.proofs.steps.write_once.Goals as goal
 
@@ -124,8 +126,9 @@ returns-clause-log g c =
     let at = 16 * c.args.page + c.args.first in
     let fit = g.met.F.Flash.sectors_fit in
     let home = c.home.ensures.is slots in
-    let elsewhere : SameElsewhere m (base_in slots place.turn) (20 * slots) after =
-    subst (λ (b : ℕ). SameElsewhere m b (20 * slots) after) home c.write_run.ensures.elsewhere in
+    let elsewhere : SameElsewhere m (base_in slots place.turn) (20 * slots) after = put_in_area slots m after
+    (base_in slots place.turn) place.next (c.in_ok-prepare.ensures.room)
+    (subst (λ (b : ℕ). SameElsewhere m (slot_of b place.next) 20 after) home c.write_run.ensures.elsewhere) in
     let held : (q : ℕ) → find after (base_in slots place.turn) slots q ≡ 0
     → find m (base_in slots place.turn) slots q ≡ 0 =
     subst (λ (b : ℕ). (q : ℕ) → find after b slots q ≡ 0 → find m b slots q ≡ 0) home c.write_run.ensures.held in
@@ -318,8 +321,9 @@ returns-in_err-write_run-clause-lost g c = λ extra roomy same pace none.
     let at = 16 * c.args.page + c.args.first in
     let fit = g.met.F.Flash.sectors_fit in
     let home = c.home.ensures.is slots in
-    let elsewhere : SameElsewhere m (base_in slots place.turn) (20 * slots) after =
-    subst (λ (b : ℕ). SameElsewhere m b (20 * slots) after) home c.write_run.ensures.elsewhere in
+    let elsewhere : SameElsewhere m (base_in slots place.turn) (20 * slots) after = put_in_area slots m after
+    (base_in slots place.turn) place.next (c.in_ok-prepare.ensures.room)
+    (subst (λ (b : ℕ). SameElsewhere m (slot_of b place.next) 20 after) home c.write_run.ensures.elsewhere) in
     let held : (q : ℕ) → find after (base_in slots place.turn) slots q ≡ 0
     → find m (base_in slots place.turn) slots q ≡ 0 =
     subst (λ (b : ℕ). (q : ℕ) → find after b slots q ≡ 0 → find m b slots q ≡ 0) home c.write_run.ensures.held in
@@ -352,8 +356,9 @@ returns-clause-lost g c = λ extra roomy same pace none.
     let at = 16 * c.args.page + c.args.first in
     let fit = g.met.F.Flash.sectors_fit in
     let home = c.home.ensures.is slots in
-    let elsewhere : SameElsewhere m (base_in slots place.turn) (20 * slots) after =
-    subst (λ (b : ℕ). SameElsewhere m b (20 * slots) after) home c.write_run.ensures.elsewhere in
+    let elsewhere : SameElsewhere m (base_in slots place.turn) (20 * slots) after = put_in_area slots m after
+    (base_in slots place.turn) place.next (c.in_ok-prepare.ensures.room)
+    (subst (λ (b : ℕ). SameElsewhere m (slot_of b place.next) 20 after) home c.write_run.ensures.elsewhere) in
     let held : (q : ℕ) → find after (base_in slots place.turn) slots q ≡ 0
     → find m (base_in slots place.turn) slots q ≡ 0 =
     subst (λ (b : ℕ). (q : ℕ) → find after b slots q ≡ 0 → find m b slots q ≡ 0) home c.write_run.ensures.held in
@@ -386,8 +391,9 @@ returns-in_err-write_run-clause-stands g c = λ extra roomy pace.
     let at = 16 * c.args.page + c.args.first in
     let fit = g.met.F.Flash.sectors_fit in
     let home = c.home.ensures.is slots in
-    let elsewhere : SameElsewhere m (base_in slots place.turn) (20 * slots) after =
-    subst (λ (b : ℕ). SameElsewhere m b (20 * slots) after) home c.write_run.ensures.elsewhere in
+    let elsewhere : SameElsewhere m (base_in slots place.turn) (20 * slots) after = put_in_area slots m after
+    (base_in slots place.turn) place.next (c.in_ok-prepare.ensures.room)
+    (subst (λ (b : ℕ). SameElsewhere m (slot_of b place.next) 20 after) home c.write_run.ensures.elsewhere) in
     let held : (q : ℕ) → find after (base_in slots place.turn) slots q ≡ 0
     → find m (base_in slots place.turn) slots q ≡ 0 =
     subst (λ (b : ℕ). (q : ℕ) → find after b slots q ≡ 0 → find m b slots q ≡ 0) home c.write_run.ensures.held in
@@ -425,3 +431,66 @@ returns-clause-stands g c = λ extra roomy pace.
     (stepped_more pages slots sectors (extra + failed_since old mid) (extra + lost_since old new) place
     (omega (arith, more))
     ((c.in_ok-prepare.ensures.pause extra (omega (arith, roomy, more))).stays pace refl)))
+
+pub returns-in_err-prepare-clause-slots : goal.returns-in_err-prepare-clause-slots
+returns-in_err-prepare-clause-slots g c = λ n far takes.
+    finds_takes g.F.Flash.SLOTS n _ _ (c.prepare.ensures.turns n far takes)
+
+pub returns-in_err-write_run-clause-slots : goal.returns-in_err-write_run-clause-slots
+returns-in_err-write_run-clause-slots g c = λ n far takes.
+    let slots = g.F.Flash.SLOTS in
+    let pages = g.F.Flash.PAGES in
+    let sectors = g.F.Flash.SECTORS in
+    let old = g.F.Flash.state c.args.flash.now in
+    let mid = g.F.Flash.state c.prepare.new.flash in
+    let new = g.F.Flash.state c.write_run.new.flash in
+    let p = c.args.place.now in
+    let q = c.prepare.new.place in
+    let ready = c.in_ok-prepare.ensures.ready in
+    let known = c.prepare.ensures.log.known ready in
+    let home = c.home.ensures.is slots ∙ ap (base_in slots) known.turn in
+    let found = c.prepare.ensures.turns n far takes in
+    let next = next_is pages slots sectors mid q n ready
+    (subst (λ (t : ℕ). AreFree mid.words (base_in slots t) q.next slots) known.turn known.free) found.takes in
+    put_takes pages slots sectors old mid new p q _ n (base_in slots c.home.result) found next home
+    c.write_run.ensures.elsewhere (turn_same slots mid.words new.words c.write_run.ensures.marks)
+    c.write_run.ensures.free c.write_run.ensures.work c.write_run.ensures.erases
+    (λ free. tried_takes pages slots sectors new _ (q.next + 1) refl (next_behind slots new.words (q.next + 1) free))
+
+pub returns-clause-slots : goal.returns-clause-slots
+returns-clause-slots g c = λ n far takes.
+    let slots = g.F.Flash.SLOTS in
+    let pages = g.F.Flash.PAGES in
+    let sectors = g.F.Flash.SECTORS in
+    let old = g.F.Flash.state c.args.flash.now in
+    let mid = g.F.Flash.state c.prepare.new.flash in
+    let new = g.F.Flash.state c.write_run.new.flash in
+    let p = c.args.place.now in
+    let q = c.prepare.new.place in
+    let ready = c.in_ok-prepare.ensures.ready in
+    let known = c.prepare.ensures.log.known ready in
+    let home = c.home.ensures.is slots ∙ ap (base_in slots) known.turn in
+    let found = c.prepare.ensures.turns n far takes in
+    let next = next_is pages slots sectors mid q n ready
+    (subst (λ (t : ℕ). AreFree mid.words (base_in slots t) q.next slots) known.turn known.free) found.takes in
+    let pace = paced_put pages slots sectors (extra_slots q) q _ refl refl refl refl refl refl (omega arith)
+    (far_stepped pages slots sectors q (extra_slots q) (omega (arith, next, far))
+    (takes_pace pages slots sectors mid q n ready found.takes)) in
+    put_takes pages slots sectors old mid new p q _ n (base_in slots c.home.result) found next home
+    c.write_run.ensures.elsewhere (turn_same slots mid.words new.words c.write_run.ensures.marks)
+    c.write_run.ensures.free c.write_run.ensures.work c.write_run.ensures.erases
+    (λ free. found_takes pages slots sectors new _ (extra_slots q) pace free)
+
+pub returns-clause-last : goal.returns-clause-last
+returns-clause-last g c =
+    let slots = g.F.Flash.SLOTS in
+    let m = (g.F.Flash.state c.prepare.new.flash).words in
+    let after = (g.F.Flash.state c.write_run.new.flash).words in
+    let place = c.prepare.new.place in
+    let known = c.prepare.ensures.log.known c.in_ok-prepare.ensures.ready in
+    let room = c.in_ok-prepare.ensures.room in
+    let home = c.home.ensures.is slots ∙ ap (base_in slots) (known.turn
+    ∙ sym (turn_same slots m after c.write_run.ensures.marks)) in
+    let last = c.in_ok-write_run.ensures.last in
+    let put : place.next + 1 ≡ slots - (slots - (place.next + 1)) = omega (arith, room) in
+    ap (λ (b : ℕ). find after b slots c.args.page) (sym home) ∙ last ∙ put

@@ -1,10 +1,9 @@
-use Rattle.std.proofs.Common.{◌≡◌, ◌+◌, ◌*◌, ℕ, List, length, sym, subst}
+use Rattle.std.proofs.Common.{◌≡◌, ◌+◌, ℕ, List, length, sym, subst}
 use Rattle.std.proofs.Common.{arith}
 use Rattle.flash_device.specs.PageTables.{AreFree, IsPageTable}
 use Rattle.flash_device.specs.FlashLogs.{base_in, slot_of}
 use Rattle.flash_device.specs.PutRecords.{IsPut, PutsInSlot}
-use Rattle.flash_device.specs.laws.Marks.{elsewhere_wider}
-use Rattle.flash_log.specs.laws.Writing.{run_marks, run_done, run_held, run_whole, run_index}
+use Rattle.flash_log.specs.laws.Writing.{run_marks, run_done, run_held, run_last, run_whole, run_index}
 use Rattle.flash_log.specs.laws.Writing.{free_behind}
 use Rattle.flash_log.proofs.writing.write_run.Goals as goal
 
@@ -105,6 +104,26 @@ returns-clause-index g c =
     c.requires.free size c.requires.page c.requires.run c.in_ok-found.ensures.each c.in_ok-found.ensures.names
     c.overlay.ensures.other c.overlay.ensures.run table all c.requires.index puts put)
 
+pub returns-clause-last : goal.returns-clause-last
+returns-clause-last g c =
+    let slots = g.F.Flash.SLOTS in
+    let pages = g.F.Flash.PAGES in
+    let a = c.args in
+    let m = (g.F.Flash.state a.flash.now).words in
+    let after = (g.F.Flash.state c.program_record.new.flash).words in
+    let words = c.overlay.new.found in
+    let at = slot_of (base_in slots a.area) a.next in
+    let puts : PutsInSlot m at words after = subst (λ (k : ℕ). PutsInSlot m k words after) c.slot_at.ensures.is
+    (subst (λ (l : List ℕ). PutsInSlot l c.slot_at.result words after) c.record_of.ensures.words
+    c.program_record.ensures.puts) in
+    let size : length words ≡ 18 = omega arith in
+    let put : IsPut after at words =
+    subst (λ (k : ℕ). IsPut after k words) c.slot_at.ensures.is c.in_ok-program_record.ensures.done in
+    run_last pages slots m after a.area a.next a.page a.first a.words.now c.in_ok-found.found words c.requires.room
+    c.requires.home
+    c.requires.free size c.requires.page c.requires.run c.in_ok-found.ensures.each c.in_ok-found.ensures.names
+    c.overlay.ensures.other c.overlay.ensures.run puts put
+
 pub returns-in_err-found-clause-free : goal.returns-in_err-found-clause-free
 returns-in_err-found-clause-free g c =
     let slots = g.F.Flash.SLOTS in
@@ -171,13 +190,11 @@ returns-in_err-program_record-clause-elsewhere g c =
     let m = (g.F.Flash.state a.flash.now).words in
     let after = (g.F.Flash.state c.program_record.new.flash).words in
     let words = c.overlay.new.found in
-    let base = base_in slots a.area in
-    let at = slot_of base a.next in
+    let at = slot_of (base_in slots a.area) a.next in
     let puts : PutsInSlot m at words after = subst (λ (k : ℕ). PutsInSlot m k words after) c.slot_at.ensures.is
     (subst (λ (l : List ℕ). PutsInSlot l c.slot_at.result words after) c.record_of.ensures.words
     c.program_record.ensures.puts) in
-    let room = c.requires.room in
-    elsewhere_wider m after at 20 base (20 * slots) (omega arith) (omega (arith, room)) puts.elsewhere
+    puts.elsewhere
 
 pub returns-clause-elsewhere : goal.returns-clause-elsewhere
 returns-clause-elsewhere g c =
@@ -186,13 +203,11 @@ returns-clause-elsewhere g c =
     let m = (g.F.Flash.state a.flash.now).words in
     let after = (g.F.Flash.state c.program_record.new.flash).words in
     let words = c.overlay.new.found in
-    let base = base_in slots a.area in
-    let at = slot_of base a.next in
+    let at = slot_of (base_in slots a.area) a.next in
     let puts : PutsInSlot m at words after = subst (λ (k : ℕ). PutsInSlot m k words after) c.slot_at.ensures.is
     (subst (λ (l : List ℕ). PutsInSlot l c.slot_at.result words after) c.record_of.ensures.words
     c.program_record.ensures.puts) in
-    let room = c.requires.room in
-    elsewhere_wider m after at 20 base (20 * slots) (omega arith) (omega (arith, room)) puts.elsewhere
+    puts.elsewhere
 
 pub returns-in_err-program_record-clause-held : goal.returns-in_err-program_record-clause-held
 returns-in_err-program_record-clause-held g c =

@@ -1,9 +1,10 @@
-use Rattle.std.proofs.Common.{◌≡◌, ◌⊎◌, ◌<◌, ◌≤◌, ◌+◌, ℕ, true, false, subst, arith}
+use Rattle.std.proofs.Common.{◌≡◌, ◌⊎◌, ◌<◌, ◌≤◌, ◌+◌, ◌-◌, ℕ, true, false, subst, arith}
 use Rattle.std.proofs.lemmas.Result.{on_ok_weaker}
 use Rattle.flash_log.specs.Paces.{IsBeforeMove, IsInPace, IsInPaceFrom, IsRoomy, KeepsPace, LogState, Pauses}
 use Rattle.flash_log.specs.Paces.{RegainsSlots, StandsInPace, TakesSlot, WillKeepPace}
 use Rattle.flash_log.specs.Paces.{extra_slots, failed_since, free_slots, is_paced, lead_of, lost_since}
-use Rattle.flash_log.specs.Places.{FindsFree, state_of}
+use Rattle.flash_log.specs.Places.{FindsFree, log_value, state_of}
+use Rattle.flash_log.specs.SlotsInTurn.{TakesInTurn, WillTake}
 use Rattle.flash_log.specs.laws.Pacing.{paced_is, pauses_view, stands_view, takes_view, view_stands}
 use Rattle.flash_log.proofs.flash_log.FlashLog.write.Goals as goal
 
@@ -36,6 +37,16 @@ returns-clause-calm g c =
     c.self.view_is
     (λ far same. takes_view pages slots sectors (extra_slots c.self.inside.place) old new c.self.inside.place place
     c.write_at.result far (omega arith) (c.write_at.ensures.calm far same))
+
+pub returns-clause-slots : goal.returns-clause-slots
+returns-clause-slots g c = λ n.
+    let slots = g.F.Flash.SLOTS in
+    let pages = g.F.Flash.PAGES in
+    let sectors = g.F.Flash.SECTORS in
+    let new = g.F.Flash.state c.write_at.new.flash in
+    let after = log_value pages slots sectors new c.write_at.new.place in
+    subst (λ (l : LogState). n + lead_of pages sectors + (new.faults - l.flash.faults) < slots → WillTake slots l n
+    → TakesInTurn slots n (1 + (new.faults - l.flash.faults)) l after) c.self.view_is (c.write_at.ensures.slots n)
 
 pub returns-clause-regains : goal.returns-clause-regains
 returns-clause-regains g c =

@@ -1,0 +1,41 @@
+-- The slots that a write takes before a step of a move is due: each try takes the next one.
+use Rattle.std.specs.Prelude.{◌≡◌, ◌≤◌, ◌+◌, ◌-◌, ◌*◌, ℕ, true, List, if◌then◌else◌}
+use Rattle.flash_device.specs.FlashCalls.{SameElsewhere}
+use Rattle.flash_device.specs.FlashLogs.{base_in, slot_of, turn_of}
+use Rattle.flash_device.specs.PageTables.{AreFree}
+use Rattle.flash_log.specs.Paces.{LogState}
+
+-- the slots that the log has passed: those that aren't free, or before it has found its pages those that writes tried
+abbrev pub passed_slots : ℕ → LogState → ℕ
+passed_slots slots l = if l.ready then slots - l.free else l.tried
+
+-- The first slot from one on that is free with all behind it.
+pub record IsNextSlot (slots : ℕ) (m : List ℕ) (from n : ℕ) : Type 0 where
+  pub free : AreFree m (base_in slots (turn_of slots m)) n slots
+  pub passed : from ≤ n
+  pub first : (s : ℕ) → AreFree m (base_in slots (turn_of slots m)) s slots → from ≤ s → n ≤ s
+
+-- The next write begins at this slot. If the log has found its pages it is in pace.
+pub record WillTake (slots : ℕ) (l : LogState) (n : ℕ) : Type 0 where
+  pub next : IsNextSlot slots l.raw (passed_slots slots l) n
+  pub paced : l.ready ≡ true → l.paced ≡ true
+
+-- Tries of a write take slots from n on, so many at most, and the next write begins behind them: no slot is taken again,
+-- even if it reads blank. Each got at most two programs, of a record and its mark. No other word of the flash changed,
+-- and nothing was erased.
+pub record TakesInTurn (slots n most : ℕ) (old new : LogState) : Type 0 where
+  pub next : ℕ
+  pub takes : WillTake slots new next
+  pub on : n ≤ next
+  pub few : next ≤ n + most
+  pub programs : new.flash.operations + 2 * n ≤ old.flash.operations + 2 * next
+  pub erases : new.flash.erases ≡ old.flash.erases
+  pub only : SameElsewhere old.raw (slot_of (base_in slots (turn_of slots old.raw)) n) (20 * (next - n)) new.raw
+  pub turn : turn_of slots new.raw ≡ turn_of slots old.raw
+
+-- The slot of a write's next try is found, if no call fails. Nothing changed in the flash.
+pub record FindsNext (slots n : ℕ) (old new : LogState) : Type 0 where
+  pub raw : new.raw ≡ old.raw
+  pub operations : new.flash.operations ≡ old.flash.operations
+  pub erases : new.flash.erases ≡ old.flash.erases
+  pub takes : WillTake slots new n
