@@ -44,6 +44,7 @@ impl<F: Flash> FlashBoard<F> {
     ghost use Rattle.flash_log.specs.Paces.{HasFreeSlots, IsInPace, IsRoomy, RenewsOnly, StandsInPace, failed_since};
     ghost use Rattle.flash_log.specs.Paces.{lead_of, lost_since};
     ghost use Rattle.flash_log.specs.Renewals.{HoldsOnlyPages};
+    ghost use Rattle.flash_log.specs.SlotsInTurn.{WillTake};
 
     /// The board of a log that has power. Its counts are 0.
     pub fn new(log: FlashLog<F>) -> FlashBoard<F>
@@ -100,8 +101,11 @@ impl<F: Flash> FlashBoard<F> {
 
     /// Proves that the free slots that the log knows are blank.
     pub fn has_free(&self)
-        ensures { 0 < (log_state self.now).free → AreFree (log_state self.now).raw
+        ensures blank { 0 < (log_state self.now).free → AreFree (log_state self.now).raw
             (base_in F.SLOTS (turn_of F.SLOTS (log_state self.now).raw)) (F.SLOTS - (log_state self.now).free) F.SLOTS }
+        // In pace the next write takes the first of them.
+        ensures next { (log_state self.now).paced ≡ true → 0 < (log_state self.now).free
+            → WillTake F.SLOTS (log_state self.now) (F.SLOTS - (log_state self.now).free) }
     {
         self.log.has_free();
     }
@@ -229,6 +233,7 @@ impl<F: Flash> Board for FlashBoard<F> {
     ghost use Rattle.flash_log.specs.Paces.{CopiesNoPage, IsInPace, IsRoomy, Pauses, RegainsSlots, StandsInPace};
     ghost use Rattle.flash_log.specs.Paces.{TakesSlot, extra_of, failed_since, lead_of, lost_since};
     ghost use Rattle.flash_log.specs.Places.{FindsFree};
+    ghost use Rattle.flash_log.specs.SlotsInTurn.{TakesInTurn, WillTake};
     ghost use Rattle.flash_board.specs.laws.Boards.{flash_is_board};
     ghost use Rattle.nvm_board.specs.BoardCalls.{Compares, FitsPage, TellsWord, Writes};
     ghost use Rattle.nvm_board.specs.Facts.{address};
@@ -309,6 +314,12 @@ impl<F: Flash> Board for FlashBoard<F> {
             → (log_state self.new).flash.faults ≡ (log_state self.old).flash.faults
             → TakesSlot (log_state self.old).flash (log_state self.new).flash ((log_state self.old).paced ≡ true)
             (log_state self.old).free (log_state self.new).free result }
+        // As long as no step of a move is due, each try takes the next slot: a Fault takes one slot at most.
+        ensures slots { (n : ℕ) → n + lead_of F.PAGES F.SECTORS
+            + ((log_state self.new).flash.faults - (log_state self.old).flash.faults) < F.SLOTS
+            → WillTake F.SLOTS (log_state self.old) n
+            → TakesInTurn F.SLOTS n (1 + ((log_state self.new).flash.faults - (log_state self.old).flash.faults))
+            (log_state self.old) (log_state self.new) }
         // A move in pace leaves all slots free but one for each page and each step, and those of power losses.
         ensures regains { OnOk result ((extra : ℕ) → IsRoomy F.PAGES F.SLOTS F.SECTORS extra
             → (log_state self.new).flash.faults ≡ (log_state self.old).flash.faults

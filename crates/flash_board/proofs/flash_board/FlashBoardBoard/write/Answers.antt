@@ -3,6 +3,7 @@ use Rattle.nvm_board.specs.Facts.{address, IsLostRightly}
 use Rattle.nvm_board.specs.laws.Torn.{Torn-none}
 use Rattle.flash_board.specs.laws.Boards.{whole_torn}
 use Rattle.flash_log.specs.laws.Ending.{log_stands_more}
+use Rattle.flash_log.specs.laws.TakingTurns.{takes_more, takes_none}
 use Rattle.flash_board.proofs.flash_board.FlashBoardBoard.write.Goals as goal
 
 pub returns-then-self-clause-writes : goal.returns-then-self-clause-writes
@@ -206,3 +207,11 @@ returns-then-self-clause-work g c = record { operations = omega arith }
 
 pub returns-then-self-2-clause-work : goal.returns-then-self-2-clause-work
 returns-then-self-2-clause-work g c = record { operations = omega arith }
+
+pub returns-then-self-clause-slots : goal.returns-then-self-clause-slots
+returns-then-self-clause-slots g c = λ n far takes.
+    takes_more g.F.Flash.SLOTS n 0 _ _ _ (omega arith) (takes_none g.F.Flash.SLOTS n c.args.self.now.log takes)
+
+pub returns-then-self-2-clause-slots : goal.returns-then-self-2-clause-slots
+returns-then-self-2-clause-slots g c = λ n far takes.
+    takes_more g.F.Flash.SLOTS n 0 _ _ _ (omega arith) (takes_none g.F.Flash.SLOTS n c.args.self.now.log takes)
