@@ -33,8 +33,10 @@ pub record TakesInTurn (slots n most : ℕ) (old new : LogState) : Type 0 where
   pub only : SameElsewhere old.raw (slot_of (base_in slots (turn_of slots old.raw)) n) (20 * (next - n)) new.raw
   pub turn : turn_of slots new.raw ≡ turn_of slots old.raw
 
--- The slot of a write's next try is found, if no call fails. Nothing changed in the flash.
+-- The slot of a write's next try is found, if no call fails: it isn't after one Fault. Nothing changed in the flash.
 pub record FindsNext (slots n : ℕ) (old new : LogState) : Type 0 where
+  pub once : new.flash.faults ≤ old.flash.faults + 1
+  pub none : new.ready ≡ true → new.flash.faults ≡ old.flash.faults
   pub raw : new.raw ≡ old.raw
   pub operations : new.flash.operations ≡ old.flash.operations
   pub erases : new.flash.erases ≡ old.flash.erases

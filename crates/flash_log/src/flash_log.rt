@@ -203,6 +203,9 @@ impl<F: Flash> FlashLog<F> {
             → n + lead_of F.PAGES F.SECTORS + (self.new.flash.faults - self.old.flash.faults) < F.SLOTS
             → WillTake F.SLOTS self.old n
             → TakesInTurn F.SLOTS n (1 + (self.new.flash.faults - self.old.flash.faults)) self.old self.new }
+        // With the slots for all tries each meets one Fault at most.
+        ensures tries { (n : ℕ) → n + lead_of F.PAGES F.SECTORS + TRIES ≤ F.SLOTS → WillTake F.SLOTS self.old n
+            → self.new.flash.faults ≤ self.old.flash.faults + TRIES }
         // The record is in the last slot that isn't free.
         ensures last { OnOk result (find self.new.raw (base_in F.SLOTS (turn_of F.SLOTS self.new.raw)) F.SLOTS page
             ≡ F.SLOTS - self.new.free) }

@@ -344,6 +344,9 @@ fn write_once<F: Flash>(
         → WillTake F.SLOTS (log_value F.PAGES F.SLOTS F.SECTORS (F.state flash.old) place.old) n
         → TakesInTurn F.SLOTS n 1 (log_value F.PAGES F.SLOTS F.SECTORS (F.state flash.old) place.old)
         (log_value F.PAGES F.SLOTS F.SECTORS (F.state flash.new) place.new) }
+    ensures once { (n : ℕ) → n + lead_of F.PAGES F.SECTORS < F.SLOTS
+        → WillTake F.SLOTS (log_value F.PAGES F.SLOTS F.SECTORS (F.state flash.old) place.old) n
+        → (F.state flash.new).faults ≤ (F.state flash.old).faults + 1 }
     ensures last { OnOk result (find (F.state flash.new).words
         (base_in F.SLOTS (turn_of F.SLOTS (F.state flash.new).words)) F.SLOTS page
         ≡ F.SLOTS - free_slots F.SLOTS place.new) }
@@ -425,6 +428,9 @@ pub fn write_at<F: Flash>(
         → TakesInTurn F.SLOTS n (1 + ((F.state flash.new).faults - (F.state flash.old).faults))
         (log_value F.PAGES F.SLOTS F.SECTORS (F.state flash.old) place.old)
         (log_value F.PAGES F.SLOTS F.SECTORS (F.state flash.new) place.new) }
+    ensures tries { (n : ℕ) → n + lead_of F.PAGES F.SECTORS + TRIES ≤ F.SLOTS
+        → WillTake F.SLOTS (log_value F.PAGES F.SLOTS F.SECTORS (F.state flash.old) place.old) n
+        → (F.state flash.new).faults ≤ (F.state flash.old).faults + TRIES }
     ensures last { OnOk result (find (F.state flash.new).words
         (base_in F.SLOTS (turn_of F.SLOTS (F.state flash.new).words)) F.SLOTS page
         ≡ F.SLOTS - free_slots F.SLOTS place.new) }

@@ -56,6 +56,13 @@ lights_faults old new (Ok x) lights = let same = (lights.ok refl).faults in omeg
 lights_faults old new (Err PowerLost) lights = let same = (lights.lost refl).faults in omega (arith, same)
 lights_faults old new (Err Fault) lights = let more = (lights.fault refl).faults in omega (arith, more)
 
+-- one call has one at most
+pub lights_once : {T : Type 0} (old new : FlashState) (r : Result T DeviceErr) → Lights old new r
+    → new.faults ≤ old.faults + 1
+lights_once old new (Ok x) lights = let same = (lights.ok refl).faults in omega (arith, same)
+lights_once old new (Err PowerLost) lights = let same = (lights.lost refl).faults in omega (arith, same)
+lights_once old new (Err Fault) lights = let more = (lights.fault refl).faults in omega (arith, more)
+
 -- What one try more costs, by the faults: n for each fault of those before it, c for this one, and 2 for each of its
 -- own faults.
 module _ (n c : ℕ) (each : n ≡ c + 2) (first before faults start begun after : ℕ)

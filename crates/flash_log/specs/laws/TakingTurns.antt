@@ -167,9 +167,12 @@ module _ {T : Type 0} (pages slots sectors : ℕ) where
   -- it hasn't found them, since a call failed
   pub lost_next : (old new : FlashState) (p q : PageMap T) (n : ℕ) → p.ready ≡ false → q.ready ≡ false
       → q.tried ≡ p.tried → new.words ≡ old.words → new.operations ≡ old.operations → new.erases ≡ old.erases
+      → new.faults ≤ old.faults + 1
       → WillTake slots (log_value pages slots sectors old p) n
       → FindsNext slots n (log_value pages slots sectors old p) (log_value pages slots sectors new q)
-  lost_next old new p q n unready lost tried words operations erases takes = record {
+  lost_next old new p q n unready lost tried words operations erases once takes = record {
+    once = once;
+    none = λ ready. absurd (true≢false (sym ready ∙ lost));
     raw = words;
     operations = operations;
     erases = erases;
@@ -211,20 +214,22 @@ module _ {T : Type 0} (pages slots sectors : ℕ) where
 
   -- It has found them: the next slot is the same, and no page is copied.
   pub found_next : (old mid : FlashState) (p q : PageMap T) (n : ℕ) → q.ready ≡ true → mid.words ≡ old.words
-      → mid.operations ≡ old.operations → mid.erases ≡ old.erases
+      → mid.operations ≡ old.operations → mid.erases ≡ old.erases → mid.faults ≡ old.faults
       → AreFree old.words (base_in slots (turn_of slots old.words)) q.next slots
       → (p.ready ≡ true → q ≡ p)
       → (p.ready ≡ false → IsNextSlot slots old.words p.tried n → q.next ≡ n)
       → (p.ready ≡ false → lead_of pages sectors < free_slots slots q → KeepsPace pages slots sectors 0 q)
       → n + lead_of pages sectors < slots → WillTake slots (log_value pages slots sectors old p) n
       → FindsNext slots n (log_value pages slots sectors old p) (log_value pages slots sectors mid q) × (q.copied ≡ 0)
-  found_next old mid p q n there words operations erases free known finds paced far takes = by_ready p.ready refl
+  found_next old mid p q n there words operations erases faults free known finds paced far takes = by_ready p.ready refl
     where
       found_by : (extra : ℕ) → q.next ≡ n → KeepsPace pages slots sectors extra q
           → FindsNext slots n (log_value pages slots sectors old p) (log_value pages slots sectors mid q)
           × (q.copied ≡ 0)
       found_by extra next pace = (
         record {
+          once = omega (arith, faults);
+          none = λ ready. faults;
           raw = words;
           operations = operations;
           erases = erases;
@@ -274,6 +279,29 @@ module _ {T : Type 0} (pages slots sectors : ℕ) where
       erases
       (subst (λ (k : ℕ). WillTake slots (log_value pages slots sectors new t) (k + 1)) next
       (takes (subst (λ (b : ℕ). AreFree new.words b (q.next + 1) slots) here free)))
+
+  -- a try that failed met one Fault
+  pub put_once : (old mid new : FlashState) (p q : PageMap T) (n : ℕ) → q.ready ≡ true
+      → FindsNext slots n (log_value pages slots sectors old p) (log_value pages slots sectors mid q)
+      → new.faults ≤ mid.faults + 1 → new.faults ≤ old.faults + 1
+  put_once old mid new p q n ready found more = let none = found.none ready in omega (arith, none, more)
+
+  -- so tries that failed met as many
+  pub once_again : (old mid new : FlashState) (p q : PageMap T) (n counter : ℕ) → old.faults ≤ mid.faults
+      → mid.faults + 1 ≤ old.faults + counter
+      → n + lead_of pages sectors + counter ≤ slots
+      → (n + lead_of pages sectors + (mid.faults - old.faults) < slots
+      → WillTake slots (log_value pages slots sectors old p) n
+      → TakesInTurn slots n (mid.faults - old.faults) (log_value pages slots sectors old p)
+      (log_value pages slots sectors mid q))
+      → ((k : ℕ) → k + lead_of pages sectors < slots → WillTake slots (log_value pages slots sectors mid q) k
+      → new.faults ≤ mid.faults + 1)
+      → WillTake slots (log_value pages slots sectors old p) n → new.faults ≤ old.faults + counter
+  once_again old mid new p q n counter less met far before again takes =
+      let first = before (omega (arith, less, met, far)) takes in
+      let few = first.few in
+      let more = again first.next (omega (arith, less, met, far, few)) first.takes in
+      omega (arith, met, more)
 
   -- one more try, behind those that failed
   pub takes_again : (old mid new : FlashState) (p q t : PageMap T) (n most : ℕ) → old.faults ≤ mid.faults

@@ -6,6 +6,7 @@ use Rattle.flash_device.specs.FlashLogs.{base_in, turn_of}
 use Rattle.flash_device.specs.PageTables.{AreFree}
 use Rattle.flash_log.specs.Paces.{IsInPace, KeepsPace, lost_since}
 use Rattle.flash_log.specs.Places.{FindsFree}
+use Rattle.flash_log.specs.laws.Lighting.{lights_once}
 use Rattle.flash_log.specs.laws.Losing.{before_found, none_copied, stands_in_pace}
 use Rattle.flash_log.specs.laws.TakingTurns.{found_next, lost_next, still_next, was_lost}
 use Rattle.flash_log.specs.laws.Pacing.{caught_more, free_of, from_more, lost_so, place_in_pace, stands_more}
@@ -147,7 +148,8 @@ returns-in_err-find_pages-clause-turns g c = λ n far takes.
     let q = c.find_pages.new.place in
     let lost = c.in_err-find_pages.ensures.unready in
     lost_next pages slots sectors old mid p q n (was_lost pages slots sectors p q lost c.find_pages.ensures.known) lost
-    c.find_pages.ensures.tried c.find_pages.ensures.words c.find_pages.ensures.work c.find_pages.ensures.erases takes
+    c.find_pages.ensures.tried c.find_pages.ensures.words c.find_pages.ensures.work c.find_pages.ensures.erases
+    (lights_once old mid c.find_pages.result c.find_pages.ensures.light) takes
 
 pub returns-clause-turns : goal.returns-clause-turns
 returns-clause-turns g c = λ n far takes.
@@ -165,7 +167,7 @@ returns-clause-turns g c = λ n far takes.
     subst (λ (l : List ℕ). AreFree l (base_in slots (turn_of slots l)) q.next slots) c.find_pages.ensures.words
     (subst (λ (t : ℕ). AreFree mid.words (base_in slots t) q.next slots) known.turn known.free) in
     let found = found_next pages slots sectors old mid p q n there c.find_pages.ensures.words c.find_pages.ensures.work
-    c.find_pages.ensures.erases free c.find_pages.ensures.known
+    c.find_pages.ensures.erases (c.in_ok-find_pages.ensures.light.ok refl).faults free c.find_pages.ensures.known
     (λ unready next. c.in_ok-find_pages.ensures.next unready n (omega (arith, far)) next)
     (c.find_pages.ensures.paced 0) far takes in
     let still = c.copy_older.ensures.idle found.1 in

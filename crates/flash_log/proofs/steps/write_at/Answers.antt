@@ -9,7 +9,7 @@ use Rattle.flash_log.specs.Places.{FindsFree}
 use Rattle.flash_log.specs.laws.Lighting.{failed_costs, last_costs, tries_faults}
 use Rattle.flash_log.specs.laws.Pacing.{holds_since, holds_still, paced_more, stands_more, takes_since}
 use Rattle.flash_log.specs.laws.Retrying.{failed_again, pauses_again, stands_again, stands_failed}
-use Rattle.flash_log.specs.laws.TakingTurns.{takes_again, takes_more, takes_none}
+use Rattle.flash_log.specs.laws.TakingTurns.{once_again, takes_again, takes_more, takes_none}
 use Rattle.flash_area.specs.laws.Words.{length-words}
 use Rattle.flash_log.specs.laws.Writing.{whole_again, done_again}
 use Rattle.flash_log.proofs.steps.write_at.Goals as goal
@@ -30,6 +30,7 @@ loop-init g c = record {
       (omega arith));
   brief = λ extra roomy pace. (omega arith, omega arith);
   log = c.requires.log;
+  met = λ n far takes. omega arith;
   turns = λ n far takes. takes_more g.F.Flash.SLOTS n 0 _ _ _ (omega arith) (takes_none g.F.Flash.SLOTS n _ takes);
   whole = inl refl;
 }
@@ -78,6 +79,13 @@ loop-preserved g c =
           ((c.write_once.ensures.pause (extra + failed_since old tried) (omega (arith, roomy, less, more))).short
           (was.stood extra (omega (arith, roomy, less, more)) pace));
       log = c.write_once.ensures.log;
+      met = λ n far takes.
+          let old = g.F.Flash.state c.args.flash.now in
+          let new = g.F.Flash.state c.write_once.new.flash in
+          let more = once_again pages slots g.F.Flash.SECTORS old (g.F.Flash.state c.loop.flash) new c.args.place.now
+          c.loop.place n c.loop.counter was.steady.faults (was.met n far takes) (omega (arith, far)) (was.turns n)
+          c.write_once.ensures.once takes in
+          omega (arith, more);
       turns = λ n.
           let old = g.F.Flash.state c.args.flash.now in
           let tried = g.F.Flash.state c.loop.flash in
@@ -476,3 +484,33 @@ returns-in-Err-PowerLost-clause-slots g c = λ n.
     takes_again g.F.Flash.PAGES g.F.Flash.SLOTS g.F.Flash.SECTORS old mid new c.args.place.now c.loop.place
     c.write_once.new.place n (1 + (new.faults - old.faults)) less more (omega (arith, less, more)) (was.turns n)
     c.write_once.ensures.slots
+
+pub returns-clause-tries : goal.returns-clause-tries
+returns-clause-tries g c = λ n far takes.
+    let new = g.F.Flash.state c.write_once-2.new.flash in
+    let was = c.loop.invariant in
+    let more = once_again g.F.Flash.PAGES g.F.Flash.SLOTS g.F.Flash.SECTORS (g.F.Flash.state c.args.flash.now)
+    (g.F.Flash.state c.loop.flash) new c.args.place.now c.loop.place n c.loop.counter was.steady.faults
+    (was.met n far takes)
+    (omega (arith, far)) (was.turns n) c.write_once-2.ensures.once takes in
+    omega (arith, more)
+
+pub returns-in-Ok-clause-tries : goal.returns-in-Ok-clause-tries
+returns-in-Ok-clause-tries g c = λ n far takes.
+    let new = g.F.Flash.state c.write_once.new.flash in
+    let was = c.loop.invariant in
+    let more = once_again g.F.Flash.PAGES g.F.Flash.SLOTS g.F.Flash.SECTORS (g.F.Flash.state c.args.flash.now)
+    (g.F.Flash.state c.loop.flash) new c.args.place.now c.loop.place n c.loop.counter was.steady.faults
+    (was.met n far takes)
+    (omega (arith, far)) (was.turns n) c.write_once.ensures.once takes in
+    omega (arith, more)
+
+pub returns-in-Err-PowerLost-clause-tries : goal.returns-in-Err-PowerLost-clause-tries
+returns-in-Err-PowerLost-clause-tries g c = λ n far takes.
+    let new = g.F.Flash.state c.write_once.new.flash in
+    let was = c.loop.invariant in
+    let more = once_again g.F.Flash.PAGES g.F.Flash.SLOTS g.F.Flash.SECTORS (g.F.Flash.state c.args.flash.now)
+    (g.F.Flash.state c.loop.flash) new c.args.place.now c.loop.place n c.loop.counter was.steady.faults
+    (was.met n far takes)
+    (omega (arith, far)) (was.turns n) c.write_once.ensures.once takes in
+    omega (arith, more)

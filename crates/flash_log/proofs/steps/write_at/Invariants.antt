@@ -5,6 +5,7 @@ use Rattle.flash_device.specs.FlashLogs.{words_of}
 use Rattle.flash_log.specs.Paces.{IsRoomy, WillKeepPace, failed_since, lead_of}
 use Rattle.flash_log.specs.Places.{IsLog, log_value}
 use Rattle.flash_log.specs.SlotsInTurn.{TakesInTurn, WillTake}
+use Rattle.flash_log.specs.declared.steps.TheConstants.{TRIES}
 use Rattle.flash_log.proofs.steps.write_at.Given as goal
 
 abbrev pub invariant-loop : goal.invariant-loop
@@ -25,6 +26,10 @@ invariant-loop g l = let old = g.F.Flash.state l.initial.flash in let new = g.F.
       l.initial.place
       → (new.operations + 39 * old.faults ≤ old.operations + 39 * new.faults)
       × (new.erases + old.faults ≤ old.erases + new.faults);
+  met : (n : ℕ) → n + lead_of g.F.Flash.PAGES g.F.Flash.SECTORS + TRIES ≤ g.F.Flash.SLOTS
+      → WillTake g.F.Flash.SLOTS
+      (log_value g.F.Flash.PAGES g.F.Flash.SLOTS g.F.Flash.SECTORS old l.initial.place) n
+      → new.faults + 1 ≤ old.faults + l.counter;
   turns : (n : ℕ) → n + lead_of g.F.Flash.PAGES g.F.Flash.SECTORS + (new.faults - old.faults) < g.F.Flash.SLOTS
       → WillTake g.F.Flash.SLOTS
       (log_value g.F.Flash.PAGES g.F.Flash.SLOTS g.F.Flash.SECTORS old l.initial.place) n

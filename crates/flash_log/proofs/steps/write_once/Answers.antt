@@ -7,11 +7,11 @@ use Rattle.flash_device.specs.FlashLogs.{base_in, find, slot_of, words_of}
 use Rattle.flash_device.specs.PageTables.{IsPageTable, AreFree}
 use Rattle.flash_log.specs.Paces.{HasStepped, IsBrief, extra_slots, failed_since, lead_of, lost_since}
 use Rattle.flash_log.specs.laws.Catching.{run_in_pace, run_spare}
-use Rattle.flash_log.specs.laws.Lighting.{lights_faults}
+use Rattle.flash_log.specs.laws.Lighting.{lights_faults, lights_once}
 use Rattle.flash_log.specs.laws.Pacing.{failed_not_ok, free_known, free_of, paced_put, short_then, stands_more}
 use Rattle.flash_log.specs.laws.Pacing.{stepped_more, stepped_paced}
 use Rattle.flash_log.specs.laws.TakingTurns.{far_stepped, finds_takes, found_takes, next_behind, next_is, put_in_area}
-use Rattle.flash_log.specs.laws.TakingTurns.{put_takes, takes_pace, tried_takes}
+use Rattle.flash_log.specs.laws.TakingTurns.{put_once, put_takes, takes_pace, tried_takes}
 use Rattle.flash_log.specs.laws.Turns.{turn_same, ring_same}
 use Rattle.flash_log.proofs.steps.write_once.Goals as goal
 
@@ -494,3 +494,22 @@ returns-clause-last g c =
     let last = c.in_ok-write_run.ensures.last in
     let put : place.next + 1 ≡ slots - (slots - (place.next + 1)) = omega (arith, room) in
     ap (λ (b : ℕ). find after b slots c.args.page) (sym home) ∙ last ∙ put
+
+pub returns-in_err-prepare-clause-once : goal.returns-in_err-prepare-clause-once
+returns-in_err-prepare-clause-once g c = λ n far takes. (c.prepare.ensures.turns n far takes).once
+
+pub returns-in_err-write_run-clause-once : goal.returns-in_err-write_run-clause-once
+returns-in_err-write_run-clause-once g c = λ n far takes.
+    let mid = g.F.Flash.state c.prepare.new.flash in
+    let new = g.F.Flash.state c.write_run.new.flash in
+    put_once g.F.Flash.PAGES g.F.Flash.SLOTS g.F.Flash.SECTORS (g.F.Flash.state c.args.flash.now) mid new
+    c.args.place.now c.prepare.new.place n c.in_ok-prepare.ensures.ready (c.prepare.ensures.turns n far takes)
+    (lights_once mid new c.write_run.result c.write_run.ensures.light)
+
+pub returns-clause-once : goal.returns-clause-once
+returns-clause-once g c = λ n far takes.
+    let mid = g.F.Flash.state c.prepare.new.flash in
+    let new = g.F.Flash.state c.write_run.new.flash in
+    put_once g.F.Flash.PAGES g.F.Flash.SLOTS g.F.Flash.SECTORS (g.F.Flash.state c.args.flash.now) mid new
+    c.args.place.now c.prepare.new.place n c.in_ok-prepare.ensures.ready (c.prepare.ensures.turns n far takes)
+    (lights_once mid new c.write_run.result c.write_run.ensures.light)

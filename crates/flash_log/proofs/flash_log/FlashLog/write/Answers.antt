@@ -6,6 +6,7 @@ use Rattle.flash_log.specs.Paces.{extra_slots, failed_since, free_slots, is_pace
 use Rattle.flash_log.specs.Places.{FindsFree, log_value, state_of}
 use Rattle.flash_log.specs.SlotsInTurn.{TakesInTurn, WillTake}
 use Rattle.flash_log.specs.laws.Pacing.{paced_is, pauses_view, stands_view, takes_view, view_stands}
+use Rattle.flash_log.specs.declared.steps.TheConstants.{TRIES}
 use Rattle.flash_log.proofs.flash_log.FlashLog.write.Goals as goal
 
 pub returns-clause-pause : goal.returns-clause-pause
@@ -47,6 +48,12 @@ returns-clause-slots g c = λ n.
     let after = log_value pages slots sectors new c.write_at.new.place in
     subst (λ (l : LogState). n + lead_of pages sectors + (new.faults - l.flash.faults) < slots → WillTake slots l n
     → TakesInTurn slots n (1 + (new.faults - l.flash.faults)) l after) c.self.view_is (c.write_at.ensures.slots n)
+
+pub returns-clause-tries : goal.returns-clause-tries
+returns-clause-tries g c = λ n far.
+    let new = g.F.Flash.state c.write_at.new.flash in
+    subst (λ (l : LogState). WillTake g.F.Flash.SLOTS l n → new.faults ≤ l.flash.faults + TRIES) c.self.view_is
+    (c.write_at.ensures.tries n far)
 
 pub returns-clause-regains : goal.returns-clause-regains
 returns-clause-regains g c =
