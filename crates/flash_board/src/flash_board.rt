@@ -234,6 +234,7 @@ impl<F: Flash> Board for FlashBoard<F> {
     ghost use Rattle.flash_log.specs.Paces.{TakesSlot, extra_of, failed_since, lead_of, lost_since};
     ghost use Rattle.flash_log.specs.Places.{FindsFree};
     ghost use Rattle.flash_log.specs.SlotsInTurn.{TakesInTurn, WillTake};
+    ghost use Rattle.flash_log.specs.declared.steps.TheConstants.{TRIES};
     ghost use Rattle.flash_board.specs.laws.Boards.{flash_is_board};
     ghost use Rattle.nvm_board.specs.BoardCalls.{Compares, FitsPage, TellsWord, Writes};
     ghost use Rattle.nvm_board.specs.Facts.{address};
@@ -320,6 +321,10 @@ impl<F: Flash> Board for FlashBoard<F> {
             → WillTake F.SLOTS (log_state self.old) n
             → TakesInTurn F.SLOTS n (1 + ((log_state self.new).flash.faults - (log_state self.old).flash.faults))
             (log_state self.old) (log_state self.new) }
+        // With the slots for all tries each meets one Fault at most.
+        ensures tries { (n : ℕ) → n + lead_of F.PAGES F.SECTORS + TRIES ≤ F.SLOTS
+            → WillTake F.SLOTS (log_state self.old) n
+            → (log_state self.new).flash.faults ≤ (log_state self.old).flash.faults + TRIES }
         // A move in pace leaves all slots free but one for each page and each step, and those of power losses.
         ensures regains { OnOk result ((extra : ℕ) → IsRoomy F.PAGES F.SLOTS F.SECTORS extra
             → (log_state self.new).flash.faults ≡ (log_state self.old).flash.faults
