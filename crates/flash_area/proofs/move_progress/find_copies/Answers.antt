@@ -64,8 +64,6 @@ returns-clause-none g c =
     subst (λ (b : ℕ). IsPageTable pages m b slots other) is c.in_ok-behind.ensures.index in
     let first : IsFirstFreeSlot m to behind slots =
     subst (λ (b : ℕ). IsFirstFreeSlot m b behind slots) is c.in_ok-behind.ensures.first in
-    let free : AreFree m to behind slots =
-    subst (λ (b : ℕ). AreFree m b behind slots) is c.in_ok-behind.ensures.free in
     let place : close_of slots c.spare-2.result ≡ to + 20 * slots =
     (is_area pages slots c.spare-2.result c.spare-2.ensures.most).close
     ∙ ap (λ (b : ℕ). b + 20 * slots) (c.spare-2.ensures.is slots) in

@@ -33,7 +33,6 @@ returns-in-Ok-clause-put g c =
 pub returns-in-Ok-clause-alone : goal.returns-in-Ok-clause-alone
 returns-in-Ok-clause-alone g c = λ none.
     let slots = g.F.Flash.SLOTS in
-    let m = (g.F.Flash.state c.args.flash.now).words in
     let mid = (g.F.Flash.state c.loop-slot.flash).words in
     let after = (g.F.Flash.state c.program_record.new.flash).words in
     let base = base_in slots c.args.area in

@@ -18,7 +18,6 @@ returns-clause-copies g c =
     let pages = g.F.Flash.PAGES in
     let a = c.args in
     let m = (g.F.Flash.state a.flash.now).words in
-    let mid = (g.F.Flash.state c.record_of.new.flash).words in
     let after = (g.F.Flash.state c.put_in_spare.new.flash).words in
     let words = c.in_ok-found.found in
     let base = spare_in slots a.turn in

@@ -167,17 +167,10 @@ pub pass_turn-requires-clause-copies : goal.pass_turn-requires-clause-copies
 pass_turn-requires-clause-copies g c =
     let slots = g.F.Flash.SLOTS in
     let pages = g.F.Flash.PAGES in
-    let m = (g.F.Flash.state c.args.flash.now).words in
     let after = (g.F.Flash.state c.copy_step.new.flash).words in
     let place = c.args.place.now in
     let turn = place.turn in
     let base = spare_in slots turn in
-    let known = c.requires.log.known c.requires.ready in
-    let wide : SameElsewhere m base (area_size slots) after =
-    elsewhere_wider m after base (20 * slots) base (area_size slots) (omega arith) (omega arith)
-    c.copy_step.ensures.elsewhere in
-    let stays : Stays pages slots m after =
-    spare_stays pages slots m after turn c.requires.log.ring known.turn known.small c.requires.moves.0 wide in
     let last = c.if-place-copy_steps.true in
     let steps = c.copy_steps.ensures in
     let whole = g.met.F.Flash.pages_fit.2 in

@@ -28,9 +28,6 @@ returns-in_err-close-clause-words g c =
     let words : words_of pages slots after ≡ words_of pages slots m =
     pass_words pages slots m after place.turn place.behind moves.2 c.requires.turn moves.0 moves.1 c.requires.copies
     c.close.ensures.elsewhere in
-    let ring : IsRing slots after =
-    pass_ring pages slots m after place.turn place.behind moves.2 c.requires.turn moves.0 moves.1 c.requires.copies
-    c.close.ensures.elsewhere in
     words
 
 pub returns-in_err-close-clause-log : goal.returns-in_err-close-clause-log
@@ -41,9 +38,6 @@ returns-in_err-close-clause-log g c =
     let after = (g.F.Flash.state c.close.new.flash).words in
     let place = c.args.place.now in
     let moves = c.requires.moves in
-    let words : words_of pages slots after ≡ words_of pages slots m =
-    pass_words pages slots m after place.turn place.behind moves.2 c.requires.turn moves.0 moves.1 c.requires.copies
-    c.close.ensures.elsewhere in
     let ring : IsRing slots after =
     pass_ring pages slots m after place.turn place.behind moves.2 c.requires.turn moves.0 moves.1 c.requires.copies
     c.close.ensures.elsewhere in
@@ -60,9 +54,6 @@ returns-in_err-scan-clause-words g c =
     let words : words_of pages slots after ≡ words_of pages slots m =
     pass_words pages slots m after place.turn place.behind moves.2 c.requires.turn moves.0 moves.1 c.requires.copies
     c.close.ensures.elsewhere in
-    let ring : IsRing slots after =
-    pass_ring pages slots m after place.turn place.behind moves.2 c.requires.turn moves.0 moves.1 c.requires.copies
-    c.close.ensures.elsewhere in
     let last = (g.F.Flash.state c.scan.new.flash).words in
     let same : last ≡ after = c.scan.ensures.words in
     ap (words_of pages slots) same ∙ words
@@ -75,9 +66,6 @@ returns-in_err-scan-clause-log g c =
     let after = (g.F.Flash.state c.close.new.flash).words in
     let place = c.args.place.now in
     let moves = c.requires.moves in
-    let words : words_of pages slots after ≡ words_of pages slots m =
-    pass_words pages slots m after place.turn place.behind moves.2 c.requires.turn moves.0 moves.1 c.requires.copies
-    c.close.ensures.elsewhere in
     let ring : IsRing slots after =
     pass_ring pages slots m after place.turn place.behind moves.2 c.requires.turn moves.0 moves.1 c.requires.copies
     c.close.ensures.elsewhere in
@@ -99,9 +87,6 @@ returns-clause-words g c =
     let words : words_of pages slots after ≡ words_of pages slots m =
     pass_words pages slots m after place.turn place.behind moves.2 c.requires.turn moves.0 moves.1 c.requires.copies
     c.close.ensures.elsewhere in
-    let ring : IsRing slots after =
-    pass_ring pages slots m after place.turn place.behind moves.2 c.requires.turn moves.0 moves.1 c.requires.copies
-    c.close.ensures.elsewhere in
     let last = (g.F.Flash.state c.scan.new.flash).words in
     let same : last ≡ after = c.scan.ensures.words in
     ap (words_of pages slots) same ∙ words
@@ -115,9 +100,6 @@ returns-clause-log g c =
     let after = (g.F.Flash.state c.close.new.flash).words in
     let place = c.args.place.now in
     let moves = c.requires.moves in
-    let words : words_of pages slots after ≡ words_of pages slots m =
-    pass_words pages slots m after place.turn place.behind moves.2 c.requires.turn moves.0 moves.1 c.requires.copies
-    c.close.ensures.elsewhere in
     let ring : IsRing slots after =
     pass_ring pages slots m after place.turn place.behind moves.2 c.requires.turn moves.0 moves.1 c.requires.copies
     c.close.ensures.elsewhere in

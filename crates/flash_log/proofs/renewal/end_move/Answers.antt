@@ -66,7 +66,6 @@ returns-in_err-copy_older-clause-stands g c = λ extra roomy pace.
     let looked = c.in_ok-find_pages.ensures.light.ok refl in
     let a = looked.faults in
     let b = looked.due in
-    let more = tries_faults 1 found mid c.copy_older.result c.copy_older.ensures.light in
     failed_stands pages slots sectors start mid.words (extra + lost_since found mid) (extra + lost_since old mid)
     c.copy_older.new.place (omega (arith, a, b)) c.in_err-copy_older.ensures.unready
     (c.copy_older.ensures.stands extra (omega (arith, roomy, a)) keeps)
@@ -201,7 +200,6 @@ returns-clause-room g c = λ extra roomy pace.
     let still = (c.in_ok-copy_older.ensures.light.ok refl).due in
     let now = g.F.Flash.state c.loop.flash in
     let was = c.loop.invariant in
-    let d = was.steady.due in
     let rise = was.steady.faults in
     let r = c.copy_older.new.place in
     let first : ℕ = extra + failed_since old mid in
@@ -246,7 +244,6 @@ returns-clause-stands g c = λ extra roomy pace.
     let still = (c.in_ok-copy_older.ensures.light.ok refl).due in
     let now = g.F.Flash.state c.loop.flash in
     let was = c.loop.invariant in
-    let d = was.steady.due in
     let rise = was.steady.faults in
     let r = c.copy_older.new.place in
     let first : ℕ = extra + failed_since old mid in

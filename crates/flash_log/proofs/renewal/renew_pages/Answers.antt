@@ -26,8 +26,6 @@ returns-in_err-end_move-clause-keeps_free g c = λ has.
 
 pub returns-in_err-end_move-clause-calm : goal.returns-in_err-end_move-clause-calm
 returns-in_err-end_move-clause-calm g c = λ has.
-    let slots = g.F.Flash.SLOTS in
-    let pages = g.F.Flash.PAGES in
     let old = g.F.Flash.state c.args.flash.now in
     let mid = g.F.Flash.state c.end_move.new.flash in
     let still = c.end_move.ensures.calm has in
@@ -67,13 +65,7 @@ returns-in_err-leave_area-clause-stands g c = λ extra roomy pace.
 
 pub returns-in_err-leave_area-clause-calm : goal.returns-in_err-leave_area-clause-calm
 returns-in_err-leave_area-clause-calm g c = λ has.
-    let slots = g.F.Flash.SLOTS in
-    let pages = g.F.Flash.PAGES in
-    let old = g.F.Flash.state c.args.flash.now in
-    let mid = g.F.Flash.state c.end_move.new.flash in
-    let new = g.F.Flash.state c.leave_area.new.flash in
     let less = (c.in_ok-end_move.ensures.light.ok refl).faults in
-    let more = tries_faults 1 mid new c.leave_area.result c.leave_area.ensures.light in
     let still = c.end_move.ensures.calm has in
     let same = still.1 in
     let erases = still.2 in
@@ -112,13 +104,7 @@ returns-clause-stands g c = λ extra roomy pace.
 
 pub returns-clause-calm : goal.returns-clause-calm
 returns-clause-calm g c = λ has.
-    let slots = g.F.Flash.SLOTS in
-    let pages = g.F.Flash.PAGES in
-    let old = g.F.Flash.state c.args.flash.now in
-    let mid = g.F.Flash.state c.end_move.new.flash in
-    let new = g.F.Flash.state c.leave_area.new.flash in
     let less = (c.in_ok-end_move.ensures.light.ok refl).faults in
-    let more = tries_faults 1 mid new c.leave_area.result c.leave_area.ensures.light in
     let still = c.end_move.ensures.calm has in
     let same = still.1 in
     let erases = still.2 in

@@ -24,13 +24,9 @@ returns-clause-found g c =
     let slots = g.F.Flash.SLOTS in
     let pages = g.F.Flash.PAGES in
     let sectors = g.F.Flash.SECTORS in
-    let start = g.F.Flash.sector_start in
-    let entries = g.F.Table.PageTable.entries in
     let m = (g.F.Flash.state c.args.flash.now).words in
-    let p = c.args.place.now in
     let q = c.find_pages.new.place in
     let there = c.in_ok-find_pages.ensures.ready in
-    let same_faults = (c.in_ok-find_pages.ensures.light.ok refl).faults in
     let last = c.copy_older.new.place in
     on_ok_weaker c.copy_older.result
     (λ (ready : last.ready ≡ true). λ unready none. subst (FindsFree slots m)
@@ -42,15 +38,9 @@ returns-clause-found g c =
 pub returns-clause-free : goal.returns-clause-free
 returns-clause-free g c =
     let slots = g.F.Flash.SLOTS in
-    let pages = g.F.Flash.PAGES in
-    let sectors = g.F.Flash.SECTORS in
-    let start = g.F.Flash.sector_start in
-    let entries = g.F.Table.PageTable.entries in
     let m = (g.F.Flash.state c.args.flash.now).words in
-    let p = c.args.place.now in
     let q = c.find_pages.new.place in
     let there = c.in_ok-find_pages.ensures.ready in
-    let same_faults = (c.in_ok-find_pages.ensures.light.ok refl).faults in
     let mid = (g.F.Flash.state c.find_pages.new.flash).words in
     let known = c.find_pages.ensures.log.known there in
     let free : AreFree m (base_in slots (turn_of slots m)) q.next slots =
@@ -120,7 +110,6 @@ returns-clause-lost g c = λ extra roomy stands before.
     let p = c.args.place.now in
     let q = c.find_pages.new.place in
     let there = c.in_ok-find_pages.ensures.ready in
-    let same_faults = (c.in_ok-find_pages.ensures.light.ok refl).faults in
     let mid = (g.F.Flash.state c.find_pages.new.flash).words in
     let known = c.find_pages.ensures.log.known there in
     let pace = c.in_ok-find_pages.ensures.in_pace extra (omega (arith, roomy)) stands in

@@ -18,12 +18,6 @@ use Rattle.flash_log.proofs.steps.write_once.Goals as goal
 pub write_run-requires-clause-home : goal.write_run-requires-clause-home
 write_run-requires-clause-home g c =
     let slots = g.F.Flash.SLOTS in
-    let pages = g.F.Flash.PAGES in
-    let sectors = g.F.Flash.SECTORS in
-    let start = g.F.Flash.sector_start in
-    let entries = g.F.Table.PageTable.entries in
-    let m = (g.F.Flash.state c.prepare.new.flash).words in
-    let place = c.prepare.new.place in
     let known = c.prepare.ensures.log.known c.in_ok-prepare.ensures.ready in
     c.home.ensures.is slots ∙ ap (base_in slots) known.turn
 
@@ -31,8 +25,6 @@ pub write_run-requires-clause-index : goal.write_run-requires-clause-index
 write_run-requires-clause-index g c =
     let slots = g.F.Flash.SLOTS in
     let pages = g.F.Flash.PAGES in
-    let sectors = g.F.Flash.SECTORS in
-    let start = g.F.Flash.sector_start in
     let entries = g.F.Table.PageTable.entries in
     let m = (g.F.Flash.state c.prepare.new.flash).words in
     let place = c.prepare.new.place in
@@ -42,10 +34,6 @@ write_run-requires-clause-index g c =
 pub write_run-requires-clause-free : goal.write_run-requires-clause-free
 write_run-requires-clause-free g c =
     let slots = g.F.Flash.SLOTS in
-    let pages = g.F.Flash.PAGES in
-    let sectors = g.F.Flash.SECTORS in
-    let start = g.F.Flash.sector_start in
-    let entries = g.F.Table.PageTable.entries in
     let m = (g.F.Flash.state c.prepare.new.flash).words in
     let place = c.prepare.new.place in
     let known = c.prepare.ensures.log.known c.in_ok-prepare.ensures.ready in
@@ -55,12 +43,6 @@ pub returns-in_err-write_run-clause-whole : goal.returns-in_err-write_run-clause
 returns-in_err-write_run-clause-whole g c =
     let slots = g.F.Flash.SLOTS in
     let pages = g.F.Flash.PAGES in
-    let sectors = g.F.Flash.SECTORS in
-    let start = g.F.Flash.sector_start in
-    let entries = g.F.Table.PageTable.entries in
-    let m = (g.F.Flash.state c.prepare.new.flash).words in
-    let place = c.prepare.new.place in
-    let known = c.prepare.ensures.log.known c.in_ok-prepare.ensures.ready in
     let after = (g.F.Flash.state c.write_run.new.flash).words in
     let at = 16 * c.args.page + c.args.first in
     subst (λ (l : List ℕ). (words_of pages slots after ≡ l) ⊎ (words_of pages slots after
@@ -69,15 +51,9 @@ returns-in_err-write_run-clause-whole g c =
 pub returns-in_err-write_run-clause-log : goal.returns-in_err-write_run-clause-log
 returns-in_err-write_run-clause-log g c =
     let slots = g.F.Flash.SLOTS in
-    let pages = g.F.Flash.PAGES in
-    let sectors = g.F.Flash.SECTORS in
-    let start = g.F.Flash.sector_start in
-    let entries = g.F.Table.PageTable.entries in
     let m = (g.F.Flash.state c.prepare.new.flash).words in
-    let place = c.prepare.new.place in
     let known = c.prepare.ensures.log.known c.in_ok-prepare.ensures.ready in
     let after = (g.F.Flash.state c.write_run.new.flash).words in
-    let at = 16 * c.args.page + c.args.first in
     record {
       ring = ring_same slots m after c.write_run.ensures.marks c.prepare.ensures.log.ring;
       known = λ e. absurd (true≢false (sym e));
@@ -87,12 +63,6 @@ pub returns-clause-whole : goal.returns-clause-whole
 returns-clause-whole g c =
     let slots = g.F.Flash.SLOTS in
     let pages = g.F.Flash.PAGES in
-    let sectors = g.F.Flash.SECTORS in
-    let start = g.F.Flash.sector_start in
-    let entries = g.F.Table.PageTable.entries in
-    let m = (g.F.Flash.state c.prepare.new.flash).words in
-    let place = c.prepare.new.place in
-    let known = c.prepare.ensures.log.known c.in_ok-prepare.ensures.ready in
     let after = (g.F.Flash.state c.write_run.new.flash).words in
     let at = 16 * c.args.page + c.args.first in
     subst (λ (l : List ℕ). (words_of pages slots after ≡ l) ⊎ (words_of pages slots after
@@ -100,15 +70,6 @@ returns-clause-whole g c =
 
 pub returns-clause-done : goal.returns-clause-done
 returns-clause-done g c =
-    let slots = g.F.Flash.SLOTS in
-    let pages = g.F.Flash.PAGES in
-    let sectors = g.F.Flash.SECTORS in
-    let start = g.F.Flash.sector_start in
-    let entries = g.F.Table.PageTable.entries in
-    let m = (g.F.Flash.state c.prepare.new.flash).words in
-    let place = c.prepare.new.place in
-    let known = c.prepare.ensures.log.known c.in_ok-prepare.ensures.ready in
-    let after = (g.F.Flash.state c.write_run.new.flash).words in
     let at = 16 * c.args.page + c.args.first in
     c.in_ok-write_run.ensures.done ∙ ap (λ (l : List ℕ). written l at c.args.words.now) c.prepare.ensures.words
 
@@ -123,7 +84,6 @@ returns-clause-log g c =
     let place = c.prepare.new.place in
     let known = c.prepare.ensures.log.known c.in_ok-prepare.ensures.ready in
     let after = (g.F.Flash.state c.write_run.new.flash).words in
-    let at = 16 * c.args.page + c.args.first in
     let fit = g.met.F.Flash.sectors_fit in
     let home = c.home.ensures.is slots in
     let elsewhere : SameElsewhere m (base_in slots place.turn) (20 * slots) after = put_in_area slots m after
@@ -223,7 +183,6 @@ returns-in_err-prepare-clause-calm g c = λ far same.
 pub returns-in_err-write_run-clause-calm : goal.returns-in_err-write_run-clause-calm
 returns-in_err-write_run-clause-calm g c = λ far same.
     let no_value = failed_not_ok c.from_residual-in_err-write_run.result c.from_residual-in_err-write_run.ensures.0 in
-    let old = g.F.Flash.state c.args.flash.now in
     let mid = g.F.Flash.state c.prepare.new.flash in
     let new = g.F.Flash.state c.write_run.new.flash in
     let less = (c.in_ok-prepare.ensures.light.ok refl).faults in
@@ -242,9 +201,6 @@ returns-in_err-write_run-clause-calm g c = λ far same.
 
 pub returns-clause-calm : goal.returns-clause-calm
 returns-clause-calm g c = λ far same.
-    let old = g.F.Flash.state c.args.flash.now in
-    let mid = g.F.Flash.state c.prepare.new.flash in
-    let new = g.F.Flash.state c.write_run.new.flash in
     let less = (c.in_ok-prepare.ensures.light.ok refl).faults in
     let more = (c.in_ok-write_run.ensures.light.ok refl).faults in
     let known = free_known g.F.Flash.PAGES g.F.Flash.SLOTS g.F.Flash.SECTORS c.args.place.now
@@ -267,9 +223,6 @@ pub returns-clause-regains : goal.returns-clause-regains
 returns-clause-regains g c = λ extra roomy same pace grown.
     let slots = g.F.Flash.SLOTS in
     let pages = g.F.Flash.PAGES in
-    let old = g.F.Flash.state c.args.flash.now in
-    let mid = g.F.Flash.state c.prepare.new.flash in
-    let new = g.F.Flash.state c.write_run.new.flash in
     let less = (c.in_ok-prepare.ensures.light.ok refl).faults in
     let more = (c.in_ok-write_run.ensures.light.ok refl).faults in
     let moves = c.in_ok-prepare.ensures.moves_well extra roomy (omega (arith, same, less, more)) pace in
@@ -284,9 +237,6 @@ pub returns-clause-regains_found : goal.returns-clause-regains_found
 returns-clause-regains_found g c = λ extra roomy same stands n finds grown.
     let slots = g.F.Flash.SLOTS in
     let pages = g.F.Flash.PAGES in
-    let old = g.F.Flash.state c.args.flash.now in
-    let mid = g.F.Flash.state c.prepare.new.flash in
-    let new = g.F.Flash.state c.write_run.new.flash in
     let less = (c.in_ok-prepare.ensures.light.ok refl).faults in
     let more = (c.in_ok-write_run.ensures.light.ok refl).faults in
     let moves = c.in_ok-prepare.ensures.moves_found extra roomy (omega (arith, same, less, more)) stands n finds in
@@ -318,7 +268,6 @@ returns-in_err-write_run-clause-lost g c = λ extra roomy same pace none.
     let place = c.prepare.new.place in
     let known = c.prepare.ensures.log.known c.in_ok-prepare.ensures.ready in
     let after = (g.F.Flash.state c.write_run.new.flash).words in
-    let at = 16 * c.args.page + c.args.first in
     let fit = g.met.F.Flash.sectors_fit in
     let home = c.home.ensures.is slots in
     let elsewhere : SameElsewhere m (base_in slots place.turn) (20 * slots) after = put_in_area slots m after
@@ -353,7 +302,6 @@ returns-clause-lost g c = λ extra roomy same pace none.
     let place = c.prepare.new.place in
     let known = c.prepare.ensures.log.known c.in_ok-prepare.ensures.ready in
     let after = (g.F.Flash.state c.write_run.new.flash).words in
-    let at = 16 * c.args.page + c.args.first in
     let fit = g.met.F.Flash.sectors_fit in
     let home = c.home.ensures.is slots in
     let elsewhere : SameElsewhere m (base_in slots place.turn) (20 * slots) after = put_in_area slots m after
@@ -364,7 +312,6 @@ returns-clause-lost g c = λ extra roomy same pace none.
     subst (λ (b : ℕ). (q : ℕ) → find after b slots q ≡ 0 → find m b slots q ≡ 0) home c.write_run.ensures.held in
     let old = g.F.Flash.state c.args.flash.now in
     let mid = g.F.Flash.state c.prepare.new.flash in
-    let new = g.F.Flash.state c.write_run.new.flash in
     let less = (c.in_ok-prepare.ensures.light.ok refl).faults in
     let more = (c.in_ok-write_run.ensures.light.ok refl).faults in
     (run_in_pace entries pages slots sectors start g.met.F.Flash.sectors_rise fit.0 fit.1 fit.2 fit.4 m after place
@@ -388,7 +335,6 @@ returns-in_err-write_run-clause-stands g c = λ extra roomy pace.
     let place = c.prepare.new.place in
     let known = c.prepare.ensures.log.known c.in_ok-prepare.ensures.ready in
     let after = (g.F.Flash.state c.write_run.new.flash).words in
-    let at = 16 * c.args.page + c.args.first in
     let fit = g.met.F.Flash.sectors_fit in
     let home = c.home.ensures.is slots in
     let elsewhere : SameElsewhere m (base_in slots place.turn) (20 * slots) after = put_in_area slots m after
@@ -400,7 +346,6 @@ returns-in_err-write_run-clause-stands g c = λ extra roomy pace.
     let old = g.F.Flash.state c.args.flash.now in
     let mid = g.F.Flash.state c.prepare.new.flash in
     let new = g.F.Flash.state c.write_run.new.flash in
-    let less = (c.in_ok-prepare.ensures.light.ok refl).faults in
     let more = lights_faults mid new c.write_run.result c.write_run.ensures.light in
     let given = extra + lost_since old new in
     inr (

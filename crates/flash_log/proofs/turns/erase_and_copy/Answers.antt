@@ -16,7 +16,6 @@ copy_pages-requires-clause-index g c =
     let m = (g.F.Flash.state c.args.flash.now).words in
     let mid = (g.F.Flash.state c.erase_area.new.flash).words in
     let to = c.args.to in
-    let small : to < 2 = omega (arith, c.requires.areas) in
     let same : SameArea slots m mid (base_in slots c.args.from) =
     whole_area pages slots m mid c.args.from to c.requires.areas c.erase_area.ensures.elsewhere in
     record {
@@ -30,7 +29,6 @@ copy_pages-requires-clause-free g c =
     let pages = g.F.Flash.PAGES in
     let mid = (g.F.Flash.state c.erase_area.new.flash).words in
     let to = c.args.to in
-    let small : to < 2 = omega (arith, c.requires.areas) in
     erased_free pages slots mid (base_in slots to) c.in_ok-erase_area.ensures.done
 
 pub returns-clause-open : goal.returns-clause-open
@@ -56,7 +54,6 @@ returns-clause-pages g c =
     let m = (g.F.Flash.state c.args.flash.now).words in
     let mid = (g.F.Flash.state c.erase_area.new.flash).words in
     let to = c.args.to in
-    let small : to < 2 = omega (arith, c.requires.areas) in
     let same : SameArea slots m mid (base_in slots c.args.from) =
     whole_area pages slots m mid c.args.from to c.requires.areas c.erase_area.ensures.elsewhere in
     λ p k lt few. c.in_ok-next.ensures.copied.words p k lt few

@@ -134,8 +134,6 @@ returns-in_err-slot-clause-lost g c = λ extra pace none.
     (subst (λ (b : ℕ). KeepsOthers slots m b (slice_index words 16) after n) there
     (subst (λ (l : List ℕ). KeepsOthers slots l (base_in slots c.spare.result) (slice_index words 16) after n)
     c.record_of.ensures.words (c.put_in_spare.ensures.torn below))) in
-    let few = pace.few in
-    let most = known.spare.most in
     let within = (older_has entries pages slots sectors start m place page known some names).free.within in
     let full = c.if-place-SLOTS.false in
     let all = c.SLOTS.ensures in
@@ -242,8 +240,6 @@ returns-clause-lost g c = λ extra pace none.
     (subst (λ (b : ℕ). KeepsOthers slots m b (slice_index words 16) after n) there
     (subst (λ (l : List ℕ). KeepsOthers slots l (base_in slots c.spare.result) (slice_index words 16) after n)
     c.record_of.ensures.words (c.put_in_spare.ensures.torn below))) in
-    let few = pace.few in
-    let most = known.spare.most in
     let within = (older_has entries pages slots sectors start m place page known some names).free.within in
     let full = c.if-place-SLOTS.false in
     let all = c.SLOTS.ensures in

@@ -147,7 +147,6 @@ returns-in_err-program_record-clause-free g c =
     let puts : PutsInSlot m at words after = subst (λ (k : ℕ). PutsInSlot m k words after) c.slot_at.ensures.is
     (subst (λ (l : List ℕ). PutsInSlot l c.slot_at.result words after) c.record_of.ensures.words
     c.program_record.ensures.puts) in
-    let size : length words ≡ 18 = omega arith in
     free_behind pages slots m after a.area a.next puts.elsewhere c.requires.room c.requires.home c.requires.free
 
 pub returns-clause-free : goal.returns-clause-free
@@ -162,7 +161,6 @@ returns-clause-free g c =
     let puts : PutsInSlot m at words after = subst (λ (k : ℕ). PutsInSlot m k words after) c.slot_at.ensures.is
     (subst (λ (l : List ℕ). PutsInSlot l c.slot_at.result words after) c.record_of.ensures.words
     c.program_record.ensures.puts) in
-    let size : length words ≡ 18 = omega arith in
     free_behind pages slots m after a.area a.next puts.elsewhere c.requires.room c.requires.home c.requires.free
 
 pub returns-clause-marks : goal.returns-clause-marks

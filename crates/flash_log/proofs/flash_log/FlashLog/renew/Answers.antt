@@ -70,8 +70,6 @@ returns-in_err-renew_pages-clause-calm g c =
     let slots = g.F.Flash.SLOTS in
     let pages = g.F.Flash.PAGES in
     let sectors = g.F.Flash.SECTORS in
-    let start = g.F.Flash.sector_start in
-    let old = g.F.Flash.state c.self.inside.flash in
     let new = g.F.Flash.state c.renew_pages.new.flash in
     subst (λ (l : LogState). HasFreeSlots slots (lead_of pages sectors) l.raw
     → RenewsOnly pages sectors l.flash (state_of pages slots new)) c.self.view_is
@@ -126,8 +124,6 @@ returns-clause-calm g c =
     let slots = g.F.Flash.SLOTS in
     let pages = g.F.Flash.PAGES in
     let sectors = g.F.Flash.SECTORS in
-    let start = g.F.Flash.sector_start in
-    let old = g.F.Flash.state c.self.inside.flash in
     let new = g.F.Flash.state c.renew_pages.new.flash in
     subst (λ (l : LogState). HasFreeSlots slots (lead_of pages sectors) l.raw
     → RenewsOnly pages sectors l.flash (state_of pages slots new)) c.self.view_is
