@@ -10,6 +10,9 @@ use Rattle.flash_device.specs.laws.Marks.{elsewhere_wider}
 use Rattle.flash_log.specs.laws.Moving.{Stays}
 use Rattle.flash_log.specs.laws.Sparing.{copies_past, copies_put, copies_torn, copies_wider, home_held, spare_stays}
 use Rattle.flash_area.specs.laws.Words.{index-page}
+use Rattle.flash_log.specs.Paces.{StaysCopied}
+use Rattle.flash_log.proofs.ahead.copy_ahead.Given.{Over}
+use Rattle.flash_log.proofs.ahead.copy_ahead.Goals.{After-put_in_spare}
 use Rattle.flash_log.proofs.ahead.copy_ahead.Goals as goal
 
 pub returns-clause-copies : goal.returns-clause-copies
@@ -101,8 +104,14 @@ returns-in_err-found-clause-torn g c = λ fits copied less has.
     (copies_wider pages slots old.words (words_of pages slots old.words) (base_in slots turn) (spare_in slots turn)
     copied next 0 n (omega arith) fits has)
 
-pub returns-in_err-slot-clause-torn : goal.returns-in_err-slot-clause-torn
-returns-in_err-slot-clause-torn g c = λ fits copied less has.
+-- what the record takes that is put
+put_torn : (g : Over) (c : After-put_in_spare g)
+    → c.args.next + 1 + ((g.F.Flash.state c.put_in_spare.new.flash).faults - (g.F.Flash.state c.args.flash.now).faults)
+    ≤ g.F.Flash.SLOTS
+    → StaysCopied g.F.Flash.PAGES g.F.Flash.SLOTS (g.F.Flash.state c.args.flash.now).words
+    (g.F.Flash.state c.put_in_spare.new.flash).words c.args.turn c.args.page c.args.next (c.args.next + 1 +
+    ((g.F.Flash.state c.put_in_spare.new.flash).faults - (g.F.Flash.state c.args.flash.now).faults))
+put_torn g c = λ fits copied less has.
     let slots = g.F.Flash.SLOTS in
     let pages = g.F.Flash.PAGES in
     let a = c.args in
@@ -141,42 +150,8 @@ returns-in_err-slot-clause-torn g c = λ fits copied less has.
     n has elsewhere (home_held slots m after a.turn elsewhere) kept
     (λ lt. absurd (omega (arith, lt, less))) (λ e. absurd (entry e)))
 
+pub returns-in_err-slot-clause-torn : goal.returns-in_err-slot-clause-torn
+returns-in_err-slot-clause-torn g c = put_torn g (goal.at.returns-in_err-slot-clause-torn g c).After-put_in_spare
+
 pub returns-clause-torn : goal.returns-clause-torn
-returns-clause-torn g c = λ fits copied less has.
-    let slots = g.F.Flash.SLOTS in
-    let pages = g.F.Flash.PAGES in
-    let a = c.args in
-    let old = g.F.Flash.state a.flash.now in
-    let mid = g.F.Flash.state c.record_of.new.flash in
-    let new = g.F.Flash.state c.put_in_spare.new.flash in
-    let m = old.words in
-    let after = new.words in
-    let words = c.in_ok-found.found in
-    let base = spare_in slots a.turn in
-    let at : base_in slots c.spare.result ≡ base = c.spare.ensures.is slots in
-    let read = (c.in_ok-found.ensures.light.ok refl).faults in
-    let n = a.next + 1 + (new.faults - old.faults) in
-    let since : a.next + 1 + (new.faults - mid.faults) ≡ n = omega (arith, read) in
-    let below : a.next + 1 + (new.faults - mid.faults) ≤ slots = omega (arith, since, fits) in
-    let kept : KeepsOthers slots m base a.page after n =
-    subst (λ (t : ℕ). KeepsOthers slots m base a.page after t) since
-    (subst (λ (p : ℕ). KeepsOthers slots m base p after (a.next + 1 + (new.faults - mid.faults)))
-    c.in_ok-found.ensures.names
-    (subst (λ (b : ℕ). KeepsOthers slots m b (slice_index words 16) after
-    (a.next + 1 + (new.faults - mid.faults))) at
-    (subst (λ (l : List ℕ). KeepsOthers slots l (base_in slots c.spare.result) (slice_index words 16) after
-    (a.next + 1 + (new.faults - mid.faults))) c.record_of.ensures.words (c.put_in_spare.ensures.torn below)))) in
-    let elsewhere : SameElsewhere m base (20 * slots) after =
-    subst (λ (b : ℕ). SameElsewhere m b (20 * slots) after) at
-    (subst (λ (l : List ℕ). SameElsewhere l (base_in slots c.spare.result) (20 * slots) after)
-    c.record_of.ensures.words c.put_in_spare.ensures.elsewhere) in
-    let stays : Stays pages slots m after =
-    spare_stays pages slots m after a.turn c.requires.moves.2 c.requires.turn c.requires.moves.0 c.requires.moves.1
-    (elsewhere_wider m after base (20 * slots) base (20 * slots + 2) (omega arith) (omega arith) elsewhere) in
-    let entry : find m (base_in slots a.turn) slots a.page ≢ 0 =
-    λ e. c.if-entry-eq0.false (c.entry.ensures ∙ c.requires.entry.1 ∙ e) in
-    subst (λ (l : List ℕ). HasCopies pages slots after l (base_in slots a.turn) base copied n 0)
-    (sym stays.words)
-    (copies_torn pages slots m after (words_of pages slots m) (base_in slots a.turn) base a.page copied a.next 0
-    n has elsewhere (home_held slots m after a.turn elsewhere) kept
-    (λ lt. absurd (omega (arith, lt, less))) (λ e. absurd (entry e)))
+returns-clause-torn g c = put_torn g (goal.at.returns-clause-torn g c).After-put_in_spare

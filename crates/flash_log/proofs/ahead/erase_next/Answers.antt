@@ -9,6 +9,8 @@ use Rattle.flash_log.specs.laws.Moving.{Stays}
 use Rattle.flash_log.specs.laws.Sparing.{index_same, sector_within, spare_leaves, spare_more, spare_stays}
 use Rattle.flash_log.specs.laws.Losing.{erase_in_pace}
 use Rattle.flash_log.specs.laws.Pacing.{stepped_erased}
+use Rattle.flash_log.proofs.ahead.erase_next.Given.{Over}
+use Rattle.flash_log.proofs.ahead.erase_next.Goals.{After-erase}
 use Rattle.flash_log.proofs.ahead.erase_next.Goals as goal
 
 pub returns-clause-log : goal.returns-clause-log
@@ -55,8 +57,11 @@ returns-clause-log g c =
       };
     }
 
-pub returns-clause-words : goal.returns-clause-words
-returns-clause-words g c =
+-- the words are the same, whether the sector is erased or torn
+erase_words : (g : Over) (c : After-erase g)
+    → words_of g.F.Flash.PAGES g.F.Flash.SLOTS (g.F.Flash.state c.erase.new.self).words
+    ≡ words_of g.F.Flash.PAGES g.F.Flash.SLOTS (g.F.Flash.state c.args.flash.now).words
+erase_words g c =
     let slots = g.F.Flash.SLOTS in
     let pages = g.F.Flash.PAGES in
     let sectors = g.F.Flash.SECTORS in
@@ -79,29 +84,11 @@ returns-clause-words g c =
     c.requires.moves.1 run) in
     stays.words
 
+pub returns-clause-words : goal.returns-clause-words
+returns-clause-words g c = erase_words g (goal.at.returns-clause-words g c).After-erase
+
 pub returns-in_err-erase-clause-words : goal.returns-in_err-erase-clause-words
-returns-in_err-erase-clause-words g c =
-    let slots = g.F.Flash.SLOTS in
-    let pages = g.F.Flash.PAGES in
-    let sectors = g.F.Flash.SECTORS in
-    let start = g.F.Flash.sector_start in
-    let rise = g.met.F.Flash.sectors_rise in
-    let fit = g.met.F.Flash.sectors_fit in
-    let m = (g.F.Flash.state c.args.flash.now).words in
-    let after = (g.F.Flash.state c.erase.new.self).words in
-    let place = c.args.place.now in
-    let known = c.requires.log.known c.requires.ready in
-    let run : SameElsewhere m (start (spare_sector sectors place.turn + place.erased))
-    (start (spare_sector sectors place.turn + place.erased + 1)
-    - start (spare_sector sectors place.turn + place.erased)) after =
-    subst (λ (s : ℕ). SameElsewhere m (start (s + place.erased))
-    (start (s + place.erased + 1) - start (s + place.erased)) after) c.first_sector_of_spare.ensures.is
-    c.erase.ensures.elsewhere in
-    let stays : Stays pages slots m after =
-    spare_stays pages slots m after place.turn c.requires.log.ring known.turn known.small c.requires.moves.0
-    (sector_within pages slots sectors start rise fit.0 fit.1 fit.2 fit.4 m after place.turn place.erased
-    c.requires.moves.1 run) in
-    stays.words
+returns-in_err-erase-clause-words g c = erase_words g (goal.at.returns-in_err-erase-clause-words g c).After-erase
 
 pub returns-in_err-erase-clause-log : goal.returns-in_err-erase-clause-log
 returns-in_err-erase-clause-log g c =

@@ -1,4 +1,4 @@
-use Rattle.std.proofs.Common.{ℕ, ap, sym, subst, ◌∙◌, true≢false}
+use Rattle.std.proofs.Common.{◌≡◌, ℕ, ap, sym, subst, ◌∙◌, true≢false}
 use Rattle.flash_device.specs.declared.flash.TheConstants.{BLANK}
 use Rattle.flash_device.specs.FlashBlocks.{area_size}
 use Rattle.flash_device.specs.FlashCalls.{AreFilled, SameElsewhere}
@@ -8,10 +8,16 @@ use Rattle.flash_area.specs.laws.Copying.{area_free}
 use Rattle.flash_log.specs.laws.Renewing.{spare_erased}
 use Rattle.flash_log.specs.laws.Sparing.{index_same, spare_leaves, spare_stays}
 use Rattle.flash_log.specs.laws.Losing.{free_by_area}
+use Rattle.flash_log.specs.Paces.{KeepsFree}
+use Rattle.flash_log.proofs.renewal.erase_spare.Given.{Over}
+use Rattle.flash_log.proofs.renewal.erase_spare.Goals.{After-erase_area}
 use Rattle.flash_log.proofs.renewal.erase_spare.Goals as goal
 
-pub returns-in_err-erase_area-clause-words : goal.returns-in_err-erase_area-clause-words
-returns-in_err-erase_area-clause-words g c =
+-- the words are the same
+erase_words : (g : Over) (c : After-erase_area g)
+    → words_of g.F.Flash.PAGES g.F.Flash.SLOTS (g.F.Flash.state c.erase_area.new.flash).words
+    ≡ words_of g.F.Flash.PAGES g.F.Flash.SLOTS (g.F.Flash.state c.args.flash.now).words
+erase_words g c =
     let slots = g.F.Flash.SLOTS in
     let pages = g.F.Flash.PAGES in
     let m = (g.F.Flash.state c.args.flash.now).words in
@@ -24,6 +30,10 @@ returns-in_err-erase_area-clause-words g c =
     let stays = spare_stays pages slots m after place.turn c.requires.log.ring known.turn known.small c.requires.ready.1
     within in
     stays.words
+
+pub returns-in_err-erase_area-clause-words : goal.returns-in_err-erase_area-clause-words
+returns-in_err-erase_area-clause-words g c =
+    erase_words g (goal.at.returns-in_err-erase_area-clause-words g c).After-erase_area
 
 pub returns-in_err-erase_area-clause-log : goal.returns-in_err-erase_area-clause-log
 returns-in_err-erase_area-clause-log g c =
@@ -41,19 +51,7 @@ returns-in_err-erase_area-clause-log g c =
     record { ring = stays.ring; known = λ e. absurd (true≢false (sym e)) }
 
 pub returns-clause-words : goal.returns-clause-words
-returns-clause-words g c =
-    let slots = g.F.Flash.SLOTS in
-    let pages = g.F.Flash.PAGES in
-    let m = (g.F.Flash.state c.args.flash.now).words in
-    let after = (g.F.Flash.state c.erase_area.new.flash).words in
-    let place = c.args.place.now in
-    let known = c.requires.log.known c.requires.ready.0 in
-    let within : SameElsewhere m (spare_in slots place.turn) (area_size slots) after =
-    subst (λ (b : ℕ). SameElsewhere m b (area_size slots) after) (c.spare.ensures.is slots)
-    c.erase_area.ensures.elsewhere in
-    let stays = spare_stays pages slots m after place.turn c.requires.log.ring known.turn known.small c.requires.ready.1
-    within in
-    stays.words
+returns-clause-words g c = erase_words g (goal.at.returns-clause-words g c).After-erase_area
 
 pub returns-clause-log : goal.returns-clause-log
 returns-clause-log g c =
@@ -86,8 +84,11 @@ returns-clause-log g c =
       };
     }
 
-pub returns-in_err-erase_area-clause-keeps_free : goal.returns-in_err-erase_area-clause-keeps_free
-returns-in_err-erase_area-clause-keeps_free g c = λ n far.
+-- the area in use stays free where it was
+erase_free : (g : Over) (c : After-erase_area g)
+    → KeepsFree g.F.Flash.PAGES g.F.Flash.SLOTS (g.F.Flash.state c.args.flash.now)
+    (g.F.Flash.state c.erase_area.new.flash)
+erase_free g c = λ n far.
     let slots = g.F.Flash.SLOTS in
     let pages = g.F.Flash.PAGES in
     let m = (g.F.Flash.state c.args.flash.now).words in
@@ -102,18 +103,9 @@ returns-in_err-erase_area-clause-keeps_free g c = λ n far.
     free_by_area pages slots m after (base_in slots place.turn) n (ap (base_in slots) (sym known.turn))
     (ap (base_in slots) (stays.turn ∙ sym known.turn)) (spare_leaves slots m after place.turn within)
 
+pub returns-in_err-erase_area-clause-keeps_free : goal.returns-in_err-erase_area-clause-keeps_free
+returns-in_err-erase_area-clause-keeps_free g c =
+    erase_free g (goal.at.returns-in_err-erase_area-clause-keeps_free g c).After-erase_area
+
 pub returns-clause-keeps_free : goal.returns-clause-keeps_free
-returns-clause-keeps_free g c = λ n far.
-    let slots = g.F.Flash.SLOTS in
-    let pages = g.F.Flash.PAGES in
-    let m = (g.F.Flash.state c.args.flash.now).words in
-    let after = (g.F.Flash.state c.erase_area.new.flash).words in
-    let place = c.args.place.now in
-    let known = c.requires.log.known c.requires.ready.0 in
-    let within : SameElsewhere m (spare_in slots place.turn) (area_size slots) after =
-    subst (λ (b : ℕ). SameElsewhere m b (area_size slots) after) (c.spare.ensures.is slots)
-    c.erase_area.ensures.elsewhere in
-    let stays = spare_stays pages slots m after place.turn c.requires.log.ring known.turn known.small c.requires.ready.1
-    within in
-    free_by_area pages slots m after (base_in slots place.turn) n (ap (base_in slots) (sym known.turn))
-    (ap (base_in slots) (stays.turn ∙ sym known.turn)) (spare_leaves slots m after place.turn within)
+returns-clause-keeps_free g c = erase_free g (goal.at.returns-clause-keeps_free g c).After-erase_area

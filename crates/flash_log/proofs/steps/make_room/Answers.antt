@@ -9,6 +9,8 @@ use Rattle.flash_log.specs.Paces.{KeepsFree}
 use Rattle.flash_device.specs.FlashCalls.{FlashState}
 use Rattle.flash_log.specs.laws.Lighting.{tries_faults}
 use Rattle.flash_log.specs.laws.Losing.{free_then, witness_free}
+use Rattle.flash_log.proofs.steps.make_room.Given.{Over}
+use Rattle.flash_log.proofs.steps.make_room.Goals.{After-move_to_a}
 use Rattle.flash_log.proofs.steps.make_room.Goals as goal
 use Rattle.flash_log.proofs.steps.make_room.Goals.{then-place-eq1+in_ok-pass_witness, else-place-eq1}
 
@@ -165,8 +167,11 @@ returns-in_err-pass_witness-clause-keeps_free g c = λ n far.
     (g.F.Flash.state c.pass_witness.new.flash).words n (sym known.turn ∙ c.if-place-eq1.true)
     c.pass_witness.ensures.area c.pass_witness.ensures.passes
 
-pub returns-in_err-free_in_a-clause-keeps_free : goal.returns-in_err-free_in_a-clause-keeps_free
-returns-in_err-free_in_a-clause-keeps_free g c =
+-- the area in use is free behind its pages
+move_free : (g : Over) (c : After-move_to_a g)
+    → KeepsFree g.F.Flash.PAGES g.F.Flash.SLOTS (g.F.Flash.state c.args.flash.now)
+    (g.F.Flash.state c.move_to_a.new.flash)
+move_free g c =
     let slots = g.F.Flash.SLOTS in
     let pages = g.F.Flash.PAGES in
     let old = g.F.Flash.state c.args.flash.now in
@@ -190,27 +195,9 @@ returns-in_err-free_in_a-clause-keeps_free g c =
     let more = tries_faults 1 mid new c.move_to_a.result c.move_to_a.ensures.light in
     free_then pages slots old mid new (omega (arith, still)) more first c.move_to_a.ensures.keeps_free
 
+pub returns-in_err-free_in_a-clause-keeps_free : goal.returns-in_err-free_in_a-clause-keeps_free
+returns-in_err-free_in_a-clause-keeps_free g c =
+    move_free g (goal.at.returns-in_err-free_in_a-clause-keeps_free g c).After-move_to_a
+
 pub returns-clause-keeps_free : goal.returns-clause-keeps_free
-returns-clause-keeps_free g c =
-    let slots = g.F.Flash.SLOTS in
-    let pages = g.F.Flash.PAGES in
-    let old = g.F.Flash.state c.args.flash.now in
-    let mid = g.F.Flash.state c.if-place-eq1.flash in
-    let known = c.requires.log.known c.requires.ready in
-    let first : KeepsFree pages slots old mid = elim c.if-place-eq1.branch [
-      | then-place-eq1+in_ok-pass_witness w ↦
-          subst (λ (s : FlashState). KeepsFree pages slots old s) (λ i. g.F.Flash.state ((sym w.flash-is) i))
-          (λ n far. witness_free pages slots old.words (g.F.Flash.state w.pass_witness.new.flash).words n
-          (sym known.turn ∙ w.if-place-eq1.true) w.pass_witness.ensures.area w.pass_witness.ensures.passes)
-      | else-place-eq1 w ↦
-          subst (λ (s : FlashState). KeepsFree pages slots old s) (λ i. g.F.Flash.state ((sym w.flash-is) i))
-          (λ n far free. free)
-    ] in
-    let still : mid.faults ≡ old.faults = elim c.if-place-eq1.branch [
-      | then-place-eq1+in_ok-pass_witness w ↦
-          (λ i. (g.F.Flash.state (w.flash-is i)).faults) ∙ (w.in_ok-pass_witness.ensures.light.ok refl).faults
-      | else-place-eq1 w ↦ λ i. (g.F.Flash.state (w.flash-is i)).faults
-    ] in
-    let new = g.F.Flash.state c.move_to_a.new.flash in
-    let more = tries_faults 1 mid new c.move_to_a.result c.move_to_a.ensures.light in
-    free_then pages slots old mid new (omega (arith, still)) more first c.move_to_a.ensures.keeps_free
+returns-clause-keeps_free g c = move_free g (goal.at.returns-clause-keeps_free g c).After-move_to_a

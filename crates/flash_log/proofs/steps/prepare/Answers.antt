@@ -1,4 +1,4 @@
-use Rattle.std.proofs.Common.{◌<◌, ◌≤◌, ◌+◌, ◌∙◌, ℕ, refl, sym, ap, subst, inl, inr, ⊎_elim, arith}
+use Rattle.std.proofs.Common.{◌≡◌, ◌<◌, ◌≤◌, ◌+◌, ◌∙◌, ℕ, refl, true, sym, ap, subst, inl, inr, ⊎_elim, arith}
 use Rattle.std.proofs.lemmas.Bool.{cases_lt}
 use Rattle.flash_log.specs.laws.Lighting.{tries_faults}
 use Rattle.flash_log.specs.declared.place.PageMap.{PageMap}
@@ -12,6 +12,11 @@ use Rattle.flash_log.specs.laws.Pacing.{ready_found, ready_in_pace, ready_moves,
 use Rattle.flash_log.specs.laws.Pacing.{ready_stepped, ready_stood, stepped_fresh, stepped_more}
 use Rattle.flash_log.specs.laws.Losing.{ready_lost, step_lost}
 use Rattle.flash_log.specs.laws.TakingTurns.{next_is, still_next}
+use Rattle.flash_log.proofs.steps.prepare.Given.{Over}
+use Rattle.flash_log.specs.SlotsInTurn.{FindsNext, WillTake}
+use Rattle.flash_log.specs.Places.{log_value}
+use Rattle.flash_log.specs.Paces.{CopiesNoPageAt, HasNoStepDue, HasStepped, IsInPace, IsRoomy, StandsSo, lead_of}
+use Rattle.flash_log.proofs.steps.prepare.Goals.{After-make_room}
 use Rattle.flash_log.proofs.steps.prepare.Goals as goal
 
 pub returns-in_err-catch_up-clause-pause : goal.returns-in_err-catch_up-clause-pause
@@ -142,8 +147,12 @@ returns-in_err-take_step-clause-idle g c = λ ready far.
     none_due pages slots sectors old found stepped p q s (c.catch_up.ensures.next ready) c.catch_up.ensures.work
     c.catch_up.ensures.erases (c.catch_up.ensures.idle ready) still.0 still.1
 
-pub returns-in_err-make_room-clause-idle : goal.returns-in_err-make_room-clause-idle
-returns-in_err-make_room-clause-idle g c = λ ready far.
+-- no step was due before room was made
+room_idle : (g : Over) (c : After-make_room g) → c.args.place.now.ready ≡ true
+    → c.args.place.now.next + lead_of g.F.Flash.PAGES g.F.Flash.SECTORS < g.F.Flash.SLOTS
+    → HasNoStepDue (g.F.Flash.state c.args.flash.now) (g.F.Flash.state c.make_room.new.flash) c.args.place.now
+    c.make_room.new.place
+room_idle g c = λ ready far.
     let slots = g.F.Flash.SLOTS in
     let pages = g.F.Flash.PAGES in
     let sectors = g.F.Flash.SECTORS in
@@ -162,25 +171,11 @@ returns-in_err-make_room-clause-idle g c = λ ready far.
     none_due pages slots sectors old found last p q t (c.catch_up.ensures.next ready) c.catch_up.ensures.work
     c.catch_up.ensures.erases (c.catch_up.ensures.idle ready) (room.0 ∙ still.0) (room.1 ∙ still.1)
 
+pub returns-in_err-make_room-clause-idle : goal.returns-in_err-make_room-clause-idle
+returns-in_err-make_room-clause-idle g c = room_idle g (goal.at.returns-in_err-make_room-clause-idle g c).After-make_room
+
 pub returns-clause-idle : goal.returns-clause-idle
-returns-clause-idle g c = λ ready far.
-    let slots = g.F.Flash.SLOTS in
-    let pages = g.F.Flash.PAGES in
-    let sectors = g.F.Flash.SECTORS in
-    let old = g.F.Flash.state c.args.flash.now in
-    let found = g.F.Flash.state c.catch_up.new.flash in
-    let p = c.args.place.now in
-    let q = c.catch_up.new.place in
-    let s = c.take_step.new.place in
-    let last = g.F.Flash.state c.make_room.new.flash in
-    let t = c.make_room.new.place in
-    let next = c.catch_up.ensures.next ready in
-    let still = c.take_step.ensures.idle (omega (arith, next, far)) in
-    let here : s.next < slots =
-    let as_found = ap (λ (z : PageMap _). z.next) still.0 in omega (arith, as_found, next, far) in
-    let room = c.make_room.ensures.same here in
-    none_due pages slots sectors old found last p q t (c.catch_up.ensures.next ready) c.catch_up.ensures.work
-    c.catch_up.ensures.erases (c.catch_up.ensures.idle ready) (room.0 ∙ still.0) (room.1 ∙ still.1)
+returns-clause-idle g c = room_idle g (goal.at.returns-clause-idle g c).After-make_room
 
 pub returns-clause-moves_well : goal.returns-clause-moves_well
 returns-clause-moves_well g c = λ extra roomy same pace.
@@ -279,8 +274,17 @@ returns-in_err-take_step-clause-lost g c = λ extra roomy same stands none.
     c.take_step.ensures.idle here start (c.catch_up.ensures.lost extra roomy stands)
     (c.take_step.ensures.lost extra) none
 
-pub returns-in_err-make_room-clause-lost : goal.returns-in_err-make_room-clause-lost
-returns-in_err-make_room-clause-lost g c = λ extra roomy same stands none.
+-- without a Fault the flash is in pace behind the room that was made
+room_lost : (g : Over) (c : After-make_room g) → (extra : ℕ)
+    → IsRoomy g.F.Flash.PAGES g.F.Flash.SLOTS g.F.Flash.SECTORS extra
+    → (g.F.Flash.state c.make_room.new.flash).faults ≡ (g.F.Flash.state c.args.flash.now).faults
+    → WillKeepPace g.F.Flash.PAGES g.F.Flash.SLOTS g.F.Flash.SECTORS g.F.Flash.sector_start
+    (g.F.Flash.state c.args.flash.now).words extra c.args.place.now
+    → CopiesNoPageAt g.F.Flash.PAGES g.F.Flash.SLOTS g.F.Flash.SECTORS (g.F.Flash.state c.args.flash.now)
+    c.args.place.now (g.F.Flash.state c.make_room.new.flash)
+    → IsInPace g.F.Flash.PAGES g.F.Flash.SLOTS g.F.Flash.SECTORS g.F.Flash.sector_start
+    (g.F.Flash.state c.make_room.new.flash).words extra
+room_lost g c = λ extra roomy same stands none.
     let slots = g.F.Flash.SLOTS in
     let pages = g.F.Flash.PAGES in
     let sectors = g.F.Flash.SECTORS in
@@ -317,43 +321,11 @@ returns-in_err-make_room-clause-lost g c = λ extra roomy same stands none.
     c.take_step.ensures.idle here last t c.make_room.ensures.same stays start
     (c.catch_up.ensures.lost extra roomy stands) (c.take_step.ensures.lost extra) none
 
+pub returns-in_err-make_room-clause-lost : goal.returns-in_err-make_room-clause-lost
+returns-in_err-make_room-clause-lost g c = room_lost g (goal.at.returns-in_err-make_room-clause-lost g c).After-make_room
+
 pub returns-clause-lost : goal.returns-clause-lost
-returns-clause-lost g c = λ extra roomy same stands none.
-    let slots = g.F.Flash.SLOTS in
-    let pages = g.F.Flash.PAGES in
-    let sectors = g.F.Flash.SECTORS in
-    let start = g.F.Flash.sector_start in
-    let old = g.F.Flash.state c.args.flash.now in
-    let found = g.F.Flash.state c.catch_up.new.flash in
-    let p = c.args.place.now in
-    let q = c.catch_up.new.place in
-    let stepped = g.F.Flash.state c.take_step.new.flash in
-    let s = c.take_step.new.place in
-    let ready = c.in_ok-catch_up.ensures.ready in
-    let power = c.in_ok-catch_up.ensures.light.ok refl in
-    let less = power.faults in
-    let more = c.in_ok-take_step.ensures.light.ok refl in
-    let rise = more.faults in
-    let there = c.in_ok-take_step.ensures.ready in
-    let last = g.F.Flash.state c.make_room.new.flash in
-    let t = c.make_room.new.place in
-    let most = tries_faults 1 stepped last c.make_room.result c.make_room.ensures.light in
-    let here = caught_more pages slots sectors (extra + failed_since old found) extra q
-    (omega (arith, same, less, rise, most))
-    (ready_caught pages slots sectors extra old found stepped p q s start
-    (WillKeepPace pages slots sectors start old.words extra p)
-    (c.catch_up.ensures.stands extra) ready power c.take_step.ensures.stands rise
-    (omega (arith, roomy, same, less, rise, most)) stands) in
-    let stays = stepped_more pages slots sectors (extra + failed_since old stepped) extra s
-    (omega (arith, same, less, rise, most))
-    (ready_stepped pages slots sectors extra old found stepped p q s start
-    (WillKeepPace pages slots sectors start old.words extra p)
-    (c.catch_up.ensures.stands extra) ready power c.take_step.ensures.stands rise
-    (omega (arith, roomy, same, less, rise, most)) there more.due stands) in
-    ready_lost pages slots sectors extra old found stepped p q s c.catch_up.ensures.next ready
-    (c.catch_up.ensures.log.known ready).free.within c.in_ok-catch_up.ensures.found c.catch_up.ensures.erases
-    c.take_step.ensures.idle here last t c.make_room.ensures.same stays start
-    (c.catch_up.ensures.lost extra roomy stands) (c.take_step.ensures.lost extra) none
+returns-clause-lost g c = room_lost g (goal.at.returns-clause-lost g c).After-make_room
 
 pub returns-in_err-catch_up-clause-stands : goal.returns-in_err-catch_up-clause-stands
 returns-in_err-catch_up-clause-stands g c = λ extra roomy stands.
@@ -393,8 +365,18 @@ returns-in_err-take_step-clause-stands g c = λ extra roomy stands.
     (c.catch_up.ensures.stands extra) ready power c.take_step.ensures.stands rise
     roomy stands
 
-pub returns-in_err-make_room-clause-stands : goal.returns-in_err-make_room-clause-stands
-returns-in_err-make_room-clause-stands g c = λ extra roomy stands.
+-- the log is in pace behind the room that was made, or will be
+room_stands : (g : Over) (c : After-make_room g) → (extra : ℕ)
+    → IsRoomy g.F.Flash.PAGES g.F.Flash.SLOTS g.F.Flash.SECTORS (extra + failed_since (g.F.Flash.state c.args.flash.now)
+    (g.F.Flash.state c.make_room.new.flash))
+    → WillKeepPace g.F.Flash.PAGES g.F.Flash.SLOTS g.F.Flash.SECTORS g.F.Flash.sector_start
+    (g.F.Flash.state c.args.flash.now).words extra c.args.place.now
+    → StandsSo g.F.Flash.PAGES g.F.Flash.SLOTS g.F.Flash.SECTORS g.F.Flash.sector_start
+    (g.F.Flash.state c.make_room.new.flash).words (extra + lost_since (g.F.Flash.state c.args.flash.now)
+    (g.F.Flash.state c.make_room.new.flash)) c.make_room.new.place (HasStepped g.F.Flash.PAGES g.F.Flash.SLOTS
+    g.F.Flash.SECTORS (extra + lost_since (g.F.Flash.state c.args.flash.now) (g.F.Flash.state c.make_room.new.flash))
+    c.make_room.new.place)
+room_stands g c = λ extra roomy stands.
     let slots = g.F.Flash.SLOTS in
     let pages = g.F.Flash.PAGES in
     let sectors = g.F.Flash.SECTORS in
@@ -419,31 +401,12 @@ returns-in_err-make_room-clause-stands g c = λ extra roomy stands.
     (omega (arith, roomy, most)) there more.due last t
     c.make_room.ensures.same stands
 
+pub returns-in_err-make_room-clause-stands : goal.returns-in_err-make_room-clause-stands
+returns-in_err-make_room-clause-stands g c =
+    room_stands g (goal.at.returns-in_err-make_room-clause-stands g c).After-make_room
+
 pub returns-clause-stands : goal.returns-clause-stands
-returns-clause-stands g c = λ extra roomy stands.
-    let slots = g.F.Flash.SLOTS in
-    let pages = g.F.Flash.PAGES in
-    let sectors = g.F.Flash.SECTORS in
-    let start = g.F.Flash.sector_start in
-    let old = g.F.Flash.state c.args.flash.now in
-    let found = g.F.Flash.state c.catch_up.new.flash in
-    let p = c.args.place.now in
-    let q = c.catch_up.new.place in
-    let stepped = g.F.Flash.state c.take_step.new.flash in
-    let s = c.take_step.new.place in
-    let ready = c.in_ok-catch_up.ensures.ready in
-    let power = c.in_ok-catch_up.ensures.light.ok refl in
-    let more = c.in_ok-take_step.ensures.light.ok refl in
-    let rise = more.faults in
-    let there = c.in_ok-take_step.ensures.ready in
-    let last = g.F.Flash.state c.make_room.new.flash in
-    let t = c.make_room.new.place in
-    let most = tries_faults 1 stepped last c.make_room.result c.make_room.ensures.light in
-    ready_stood pages slots sectors extra old found stepped p q s start
-    (WillKeepPace pages slots sectors start old.words extra p)
-    (c.catch_up.ensures.stands extra) ready power c.take_step.ensures.stands rise
-    (omega (arith, roomy, most)) there more.due last t
-    c.make_room.ensures.same stands
+returns-clause-stands g c = room_stands g (goal.at.returns-clause-stands g c).After-make_room
 
 pub returns-in_err-catch_up-clause-turns : goal.returns-in_err-catch_up-clause-turns
 returns-in_err-catch_up-clause-turns g c = λ n far takes. c.catch_up.ensures.turns n far takes
@@ -467,8 +430,15 @@ returns-in_err-take_step-clause-turns g c = λ n far takes.
     let still = c.take_step.ensures.idle (omega (arith, next, far)) in
     still_next pages slots sectors old found stepped p q s n still.0 still.1 first
 
-pub returns-in_err-make_room-clause-turns : goal.returns-in_err-make_room-clause-turns
-returns-in_err-make_room-clause-turns g c = λ n far takes.
+-- the next slot is found before room is made
+room_turns : (g : Over) (c : After-make_room g) → (n : ℕ)
+    → n + lead_of g.F.Flash.PAGES g.F.Flash.SECTORS < g.F.Flash.SLOTS
+    → WillTake g.F.Flash.SLOTS (log_value g.F.Flash.PAGES g.F.Flash.SLOTS g.F.Flash.SECTORS
+    (g.F.Flash.state c.args.flash.now) c.args.place.now) n
+    → FindsNext g.F.Flash.SLOTS n (log_value g.F.Flash.PAGES g.F.Flash.SLOTS g.F.Flash.SECTORS
+    (g.F.Flash.state c.args.flash.now) c.args.place.now) (log_value g.F.Flash.PAGES g.F.Flash.SLOTS g.F.Flash.SECTORS
+    (g.F.Flash.state c.make_room.new.flash) c.make_room.new.place)
+room_turns g c = λ n far takes.
     let slots = g.F.Flash.SLOTS in
     let pages = g.F.Flash.PAGES in
     let sectors = g.F.Flash.SECTORS in
@@ -490,25 +460,8 @@ returns-in_err-make_room-clause-turns g c = λ n far takes.
     let room = c.make_room.ensures.same here in
     still_next pages slots sectors old found last p q t n (room.0 ∙ still.0) (room.1 ∙ still.1) first
 
+pub returns-in_err-make_room-clause-turns : goal.returns-in_err-make_room-clause-turns
+returns-in_err-make_room-clause-turns g c = room_turns g (goal.at.returns-in_err-make_room-clause-turns g c).After-make_room
+
 pub returns-clause-turns : goal.returns-clause-turns
-returns-clause-turns g c = λ n far takes.
-    let slots = g.F.Flash.SLOTS in
-    let pages = g.F.Flash.PAGES in
-    let sectors = g.F.Flash.SECTORS in
-    let old = g.F.Flash.state c.args.flash.now in
-    let found = g.F.Flash.state c.catch_up.new.flash in
-    let p = c.args.place.now in
-    let q = c.catch_up.new.place in
-    let s = c.take_step.new.place in
-    let ready = c.in_ok-catch_up.ensures.ready in
-    let known = c.catch_up.ensures.log.known ready in
-    let first = c.catch_up.ensures.turns n far takes in
-    let next = next_is pages slots sectors found q n ready
-    (subst (λ (t : ℕ). AreFree found.words (base_in slots t) q.next slots) known.turn known.free) first.takes in
-    let still = c.take_step.ensures.idle (omega (arith, next, far)) in
-    let last = g.F.Flash.state c.make_room.new.flash in
-    let t = c.make_room.new.place in
-    let here : s.next < slots =
-    let as_found = ap (λ (z : PageMap _). z.next) still.0 in omega (arith, as_found, next, far) in
-    let room = c.make_room.ensures.same here in
-    still_next pages slots sectors old found last p q t n (room.0 ∙ still.0) (room.1 ∙ still.1) first
+returns-clause-turns g c = room_turns g (goal.at.returns-clause-turns g c).After-make_room

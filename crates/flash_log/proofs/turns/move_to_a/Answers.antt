@@ -1,6 +1,6 @@
 use Rattle.std.proofs.Common.{◌≡◌, ◌⊎◌, ◌<◌, ◌≤◌, ◌+◌, ap, ⊎_elim, refl, sym, ◌∙◌, inl, inr, arith}
 use Rattle.std.proofs.Common.{true≢false}
-use Rattle.flash_device.specs.FlashLogs.{base_in, turn_of}
+use Rattle.flash_device.specs.FlashLogs.{base_in, turn_of, words_of}
 use Rattle.flash_area.specs.laws.Copying.{SameArea, area_found, area_free}
 use Rattle.flash_log.specs.laws.Moving.{Passes, Stays, whole_area, two_stays, two_passes}
 use Rattle.flash_log.specs.laws.Turns.{two_marks}
@@ -9,6 +9,10 @@ use Rattle.flash_log.specs.laws.Renewing.{same_held}
 use Rattle.flash_device.specs.FlashBlocks.{area_size, witness_start}
 use Rattle.flash_log.specs.laws.Lighting.{lights_faults}
 use Rattle.flash_log.specs.laws.Losing.{free_by_area, free_by_turn}
+use Rattle.flash_log.specs.Paces.{KeepsFree}
+use Rattle.flash_log.specs.Rings.{IsRing}
+use Rattle.flash_log.proofs.turns.move_to_a.Given.{Over}
+use Rattle.flash_log.proofs.turns.move_to_a.Goals.{After-close}
 use Rattle.flash_log.proofs.turns.move_to_a.Goals as goal
 
 pub returns-in_err-next-clause-words : goal.returns-in_err-next-clause-words
@@ -31,8 +35,11 @@ returns-in_err-next-clause-ring g c =
     two_stays pages slots m mid c.requires.turn c.erase_and_copy.ensures.elsewhere in
     stays.ring
 
-pub returns-in_err-close-clause-words : goal.returns-in_err-close-clause-words
-returns-in_err-close-clause-words g c =
+-- the words are the same, whether the block is closed or not
+close_words : (g : Over) (c : After-close g)
+    → words_of g.F.Flash.PAGES g.F.Flash.SLOTS (g.F.Flash.state c.close.new.flash).words
+    ≡ words_of g.F.Flash.PAGES g.F.Flash.SLOTS (g.F.Flash.state c.args.flash.now).words
+close_words g c =
     let slots = g.F.Flash.SLOTS in
     let pages = g.F.Flash.PAGES in
     let m = (g.F.Flash.state c.args.flash.now).words in
@@ -42,42 +49,31 @@ returns-in_err-close-clause-words g c =
     two_passes pages slots m mid after c.requires.turn c.erase_and_copy.ensures.elsewhere c.in_ok-next.ensures.open
     c.close.ensures.elsewhere c.in_ok-next.ensures.pages in
     passes.words
+
+pub returns-in_err-close-clause-words : goal.returns-in_err-close-clause-words
+returns-in_err-close-clause-words g c = close_words g (goal.at.returns-in_err-close-clause-words g c).After-close
+
+-- the marks still give a turn
+close_ring : (g : Over) (c : After-close g) → IsRing g.F.Flash.SLOTS (g.F.Flash.state c.close.new.flash).words
+close_ring g c =
+    let slots = g.F.Flash.SLOTS in
+    let pages = g.F.Flash.PAGES in
+    let m = (g.F.Flash.state c.args.flash.now).words in
+    let mid = (g.F.Flash.state c.erase_and_copy.new.flash).words in
+    let after = (g.F.Flash.state c.close.new.flash).words in
+    let passes : Passes pages slots m after 2 0 =
+    two_passes pages slots m mid after c.requires.turn c.erase_and_copy.ensures.elsewhere c.in_ok-next.ensures.open
+    c.close.ensures.elsewhere c.in_ok-next.ensures.pages in
+    passes.ring
 
 pub returns-in_err-close-clause-ring : goal.returns-in_err-close-clause-ring
-returns-in_err-close-clause-ring g c =
-    let slots = g.F.Flash.SLOTS in
-    let pages = g.F.Flash.PAGES in
-    let m = (g.F.Flash.state c.args.flash.now).words in
-    let mid = (g.F.Flash.state c.erase_and_copy.new.flash).words in
-    let after = (g.F.Flash.state c.close.new.flash).words in
-    let passes : Passes pages slots m after 2 0 =
-    two_passes pages slots m mid after c.requires.turn c.erase_and_copy.ensures.elsewhere c.in_ok-next.ensures.open
-    c.close.ensures.elsewhere c.in_ok-next.ensures.pages in
-    passes.ring
+returns-in_err-close-clause-ring g c = close_ring g (goal.at.returns-in_err-close-clause-ring g c).After-close
 
 pub returns-clause-words : goal.returns-clause-words
-returns-clause-words g c =
-    let slots = g.F.Flash.SLOTS in
-    let pages = g.F.Flash.PAGES in
-    let m = (g.F.Flash.state c.args.flash.now).words in
-    let mid = (g.F.Flash.state c.erase_and_copy.new.flash).words in
-    let after = (g.F.Flash.state c.close.new.flash).words in
-    let passes : Passes pages slots m after 2 0 =
-    two_passes pages slots m mid after c.requires.turn c.erase_and_copy.ensures.elsewhere c.in_ok-next.ensures.open
-    c.close.ensures.elsewhere c.in_ok-next.ensures.pages in
-    passes.words
+returns-clause-words g c = close_words g (goal.at.returns-clause-words g c).After-close
 
 pub returns-clause-ring : goal.returns-clause-ring
-returns-clause-ring g c =
-    let slots = g.F.Flash.SLOTS in
-    let pages = g.F.Flash.PAGES in
-    let m = (g.F.Flash.state c.args.flash.now).words in
-    let mid = (g.F.Flash.state c.erase_and_copy.new.flash).words in
-    let after = (g.F.Flash.state c.close.new.flash).words in
-    let passes : Passes pages slots m after 2 0 =
-    two_passes pages slots m mid after c.requires.turn c.erase_and_copy.ensures.elsewhere c.in_ok-next.ensures.open
-    c.close.ensures.elsewhere c.in_ok-next.ensures.pages in
-    passes.ring
+returns-clause-ring g c = close_ring g (goal.at.returns-clause-ring g c).After-close
 
 pub returns-clause-done : goal.returns-clause-done
 returns-clause-done g c =
@@ -152,8 +148,10 @@ returns-in_err-next-clause-keeps_free g c = λ n far.
     (ap (base_in slots) (stays.turn ∙ c.requires.turn))
     (whole_area pages slots m mid 1 0 refl c.erase_and_copy.ensures.elsewhere)
 
-pub returns-in_err-close-clause-keeps_free : goal.returns-in_err-close-clause-keeps_free
-returns-in_err-close-clause-keeps_free g c = λ n far.
+-- the area in use is free behind its pages
+close_free : (g : Over) (c : After-close g)
+    → KeepsFree g.F.Flash.PAGES g.F.Flash.SLOTS (g.F.Flash.state c.args.flash.now) (g.F.Flash.state c.close.new.flash)
+close_free g c = λ n far.
     let slots = g.F.Flash.SLOTS in
     let pages = g.F.Flash.PAGES in
     let m = (g.F.Flash.state c.args.flash.now).words in
@@ -184,34 +182,9 @@ returns-in_err-close-clause-keeps_free g c = λ n far.
     (area_free slots mid after 0 there c.in_ok-next.next c.in_ok-next.ensures.free)
     (omega (arith, few, more, far))
 
+pub returns-in_err-close-clause-keeps_free : goal.returns-in_err-close-clause-keeps_free
+returns-in_err-close-clause-keeps_free g c =
+    close_free g (goal.at.returns-in_err-close-clause-keeps_free g c).After-close
+
 pub returns-clause-keeps_free : goal.returns-clause-keeps_free
-returns-clause-keeps_free g c = λ n far.
-    let slots = g.F.Flash.SLOTS in
-    let pages = g.F.Flash.PAGES in
-    let m = (g.F.Flash.state c.args.flash.now).words in
-    let mid = (g.F.Flash.state c.erase_and_copy.new.flash).words in
-    let after = (g.F.Flash.state c.close.new.flash).words in
-    let passes : Passes pages slots m after 2 0 =
-    two_passes pages slots m mid after c.requires.turn c.erase_and_copy.ensures.elsewhere
-    c.in_ok-next.ensures.open
-    c.close.ensures.elsewhere c.in_ok-next.ensures.pages in
-    let turns : (base_in slots (turn_of slots after) ≡ area_size slots) ⊎ (base_in slots (turn_of slots after) ≡ 0) =
-    ⊎_elim (λ (e : turn_of slots after ≡ 2). inl (ap (base_in slots) e))
-    (λ (e : turn_of slots after ≡ 0). inr (ap (base_in slots) e)) passes.turn in
-    let here : SameArea slots m after (area_size slots) = record {
-      each = λ k low high.
-          let x : k < witness_start slots = omega (arith, high) in
-          let y : 0 + area_size slots ≤ k = omega (arith, low) in
-          c.close.ensures.elsewhere.same k (inl x) ∙ c.erase_and_copy.ensures.elsewhere.same k (inr y);
-    } in
-    let there : SameArea slots mid after 0 = record {
-      each = λ k low high. let x : k < witness_start slots = omega (arith, high) in
-          c.close.ensures.elsewhere.same k (inl x);
-    } in
-    let more = lights_faults (g.F.Flash.state c.erase_and_copy.new.flash) (g.F.Flash.state c.close.new.flash)
-    c.close.result c.close.ensures.light in
-    let few = c.in_ok-next.ensures.passes in
-    free_by_turn pages slots m after (area_size slots) 0 c.in_ok-next.next n
-    (ap (base_in slots) c.requires.turn) turns here
-    (area_free slots mid after 0 there c.in_ok-next.next c.in_ok-next.ensures.free)
-    (omega (arith, few, more, far))
+returns-clause-keeps_free g c = close_free g (goal.at.returns-clause-keeps_free g c).After-close

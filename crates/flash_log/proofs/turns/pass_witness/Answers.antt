@@ -1,12 +1,15 @@
 use Rattle.std.proofs.Common.{◌≡◌, ◌≤◌, ◌+◌, false, ⊎_elim, sym, ◌∙◌, inl, inr, arith}
 use Rattle.std.proofs.Common.{true≢false}
-use Rattle.flash_device.specs.FlashLogs.{turn_of, is_closed as has_closed}
+use Rattle.flash_device.specs.FlashLogs.{turn_of, is_closed as has_closed, words_of}
 use Rattle.flash_log.specs.laws.Moving.{Passes, Stays, one_stays}
 use Rattle.flash_log.specs.laws.Moving.{witness_passes}
 use Rattle.flash_log.specs.laws.Turns.{one_marks}
 use Rattle.flash_device.specs.laws.Marks.{filled_open, closed_same}
 use Rattle.flash_device.specs.FlashBlocks.{witness_start}
 use Rattle.flash_device.specs.FlashLogs.{close_b}
+use Rattle.flash_log.specs.Rings.{IsRing}
+use Rattle.flash_log.proofs.turns.pass_witness.Given.{Over}
+use Rattle.flash_log.proofs.turns.pass_witness.Goals.{After-close}
 use Rattle.flash_log.proofs.turns.pass_witness.Goals as goal
 
 pub returns-in_err-erase_witness-clause-words : goal.returns-in_err-erase_witness-clause-words
@@ -29,8 +32,11 @@ returns-in_err-erase_witness-clause-ring g c =
     one_stays pages slots m mid c.requires.turn c.erase_witness.ensures.elsewhere in
     stays.ring
 
-pub returns-in_err-close-clause-words : goal.returns-in_err-close-clause-words
-returns-in_err-close-clause-words g c =
+-- the words are the same, whether the block is closed or not
+close_words : (g : Over) (c : After-close g)
+    → words_of g.F.Flash.PAGES g.F.Flash.SLOTS (g.F.Flash.state c.close.new.flash).words
+    ≡ words_of g.F.Flash.PAGES g.F.Flash.SLOTS (g.F.Flash.state c.args.flash.now).words
+close_words g c =
     let slots = g.F.Flash.SLOTS in
     let pages = g.F.Flash.PAGES in
     let m = (g.F.Flash.state c.args.flash.now).words in
@@ -42,48 +48,33 @@ returns-in_err-close-clause-words g c =
     witness_passes pages slots m mid after c.requires.turn c.erase_witness.ensures.elsewhere unmarked
     c.close.ensures.elsewhere in
     passes.words
+
+pub returns-in_err-close-clause-words : goal.returns-in_err-close-clause-words
+returns-in_err-close-clause-words g c = close_words g (goal.at.returns-in_err-close-clause-words g c).After-close
+
+-- the marks still give a turn
+close_ring : (g : Over) (c : After-close g) → IsRing g.F.Flash.SLOTS (g.F.Flash.state c.close.new.flash).words
+close_ring g c =
+    let slots = g.F.Flash.SLOTS in
+    let pages = g.F.Flash.PAGES in
+    let m = (g.F.Flash.state c.args.flash.now).words in
+    let mid = (g.F.Flash.state c.erase_witness.new.flash).words in
+    let after = (g.F.Flash.state c.close.new.flash).words in
+    let unmarked : has_closed mid (witness_start slots) ≡ false =
+    filled_open mid (witness_start slots) c.in_ok-erase_witness.ensures.done in
+    let passes : Passes pages slots m after 1 2 =
+    witness_passes pages slots m mid after c.requires.turn c.erase_witness.ensures.elsewhere unmarked
+    c.close.ensures.elsewhere in
+    passes.ring
 
 pub returns-in_err-close-clause-ring : goal.returns-in_err-close-clause-ring
-returns-in_err-close-clause-ring g c =
-    let slots = g.F.Flash.SLOTS in
-    let pages = g.F.Flash.PAGES in
-    let m = (g.F.Flash.state c.args.flash.now).words in
-    let mid = (g.F.Flash.state c.erase_witness.new.flash).words in
-    let after = (g.F.Flash.state c.close.new.flash).words in
-    let unmarked : has_closed mid (witness_start slots) ≡ false =
-    filled_open mid (witness_start slots) c.in_ok-erase_witness.ensures.done in
-    let passes : Passes pages slots m after 1 2 =
-    witness_passes pages slots m mid after c.requires.turn c.erase_witness.ensures.elsewhere unmarked
-    c.close.ensures.elsewhere in
-    passes.ring
+returns-in_err-close-clause-ring g c = close_ring g (goal.at.returns-in_err-close-clause-ring g c).After-close
 
 pub returns-clause-words : goal.returns-clause-words
-returns-clause-words g c =
-    let slots = g.F.Flash.SLOTS in
-    let pages = g.F.Flash.PAGES in
-    let m = (g.F.Flash.state c.args.flash.now).words in
-    let mid = (g.F.Flash.state c.erase_witness.new.flash).words in
-    let after = (g.F.Flash.state c.close.new.flash).words in
-    let unmarked : has_closed mid (witness_start slots) ≡ false =
-    filled_open mid (witness_start slots) c.in_ok-erase_witness.ensures.done in
-    let passes : Passes pages slots m after 1 2 =
-    witness_passes pages slots m mid after c.requires.turn c.erase_witness.ensures.elsewhere unmarked
-    c.close.ensures.elsewhere in
-    passes.words
+returns-clause-words g c = close_words g (goal.at.returns-clause-words g c).After-close
 
 pub returns-clause-ring : goal.returns-clause-ring
-returns-clause-ring g c =
-    let slots = g.F.Flash.SLOTS in
-    let pages = g.F.Flash.PAGES in
-    let m = (g.F.Flash.state c.args.flash.now).words in
-    let mid = (g.F.Flash.state c.erase_witness.new.flash).words in
-    let after = (g.F.Flash.state c.close.new.flash).words in
-    let unmarked : has_closed mid (witness_start slots) ≡ false =
-    filled_open mid (witness_start slots) c.in_ok-erase_witness.ensures.done in
-    let passes : Passes pages slots m after 1 2 =
-    witness_passes pages slots m mid after c.requires.turn c.erase_witness.ensures.elsewhere unmarked
-    c.close.ensures.elsewhere in
-    passes.ring
+returns-clause-ring g c = close_ring g (goal.at.returns-clause-ring g c).After-close
 
 pub returns-clause-done : goal.returns-clause-done
 returns-clause-done g c =

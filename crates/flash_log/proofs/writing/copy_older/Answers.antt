@@ -3,13 +3,15 @@ use Rattle.std.proofs.Common.{◌∙◌, arith, inl, inr, true≢false}
 use Rattle.flash_area.specs.PageCopies.{KeepsOthers}
 use Rattle.flash_area.specs.Spares.{spare_in}
 use Rattle.flash_device.specs.FlashCalls.{SameElsewhere}
-use Rattle.flash_device.specs.FlashLogs.{base_in, find, page_word, slot_of}
+use Rattle.flash_device.specs.FlashLogs.{base_in, find, page_word, slot_of, words_of}
 use Rattle.flash_device.specs.PageTables.{AreFree}
 use Rattle.flash_device.specs.PutRecords.{IsPut}
-use Rattle.flash_log.specs.Paces.{IsInPaceFrom, lost_since}
+use Rattle.flash_log.specs.Paces.{IsInPaceFrom, lost_since, IsInPace, KeepsPace}
 use Rattle.flash_log.specs.laws.Losing.{err_lost, in_pace_more, none_caught, older_caught, place_stands, tries_once}
 use Rattle.flash_log.specs.laws.Pacing.{caught_more, from_more}
 use Rattle.flash_log.specs.laws.Catching.{older_has, older_lost, older_page, older_put, older_stays}
+use Rattle.flash_log.proofs.writing.copy_older.Given.{Over}
+use Rattle.flash_log.proofs.writing.copy_older.Goals.{After-put_in_spare}
 use Rattle.flash_log.proofs.writing.copy_older.Goals as goal
 
 pub record_of-requires-clause-entry : goal.record_of-requires-clause-entry
@@ -48,8 +50,11 @@ put_in_spare-requires-clause-free g c =
     (subst (λ (l : List ℕ). AreFree l (spare_in slots place.turn) place.behind slots) (sym c.record_of.ensures.words)
     (older_has entries pages slots sectors start m place page known some names).free)
 
-pub returns-in_err-slot-clause-words : goal.returns-in_err-slot-clause-words
-returns-in_err-slot-clause-words g c =
+-- the words are the same, whether the copy is whole or torn
+put_words : (g : Over) (c : After-put_in_spare g)
+    → words_of g.F.Flash.PAGES g.F.Flash.SLOTS (g.F.Flash.state c.put_in_spare.new.flash).words
+    ≡ words_of g.F.Flash.PAGES g.F.Flash.SLOTS (g.F.Flash.state c.args.flash.now).words
+put_words g c =
     let slots = g.F.Flash.SLOTS in
     let pages = g.F.Flash.PAGES in
     let sectors = g.F.Flash.SECTORS in
@@ -71,6 +76,9 @@ returns-in_err-slot-clause-words g c =
     c.record_of.ensures.words c.put_in_spare.ensures.elsewhere) in
     (older_stays entries pages slots sectors start m place page known some names after c.requires.log.ring
     elsewhere).words
+
+pub returns-in_err-slot-clause-words : goal.returns-in_err-slot-clause-words
+returns-in_err-slot-clause-words g c = put_words g (goal.at.returns-in_err-slot-clause-words g c).After-put_in_spare
 
 pub returns-in_err-slot-clause-log : goal.returns-in_err-slot-clause-log
 returns-in_err-slot-clause-log g c =
@@ -99,8 +107,13 @@ returns-in_err-slot-clause-log g c =
       known = λ e. absurd (true≢false (sym e));
     }
 
-pub returns-in_err-slot-clause-lost : goal.returns-in_err-slot-clause-lost
-returns-in_err-slot-clause-lost g c = λ extra pace none.
+-- without a Fault it took one slot
+put_lost : (g : Over) (c : After-put_in_spare g) → (extra : ℕ)
+    → KeepsPace g.F.Flash.PAGES g.F.Flash.SLOTS g.F.Flash.SECTORS extra c.args.place.now
+    → (g.F.Flash.state c.put_in_spare.new.flash).faults ≡ (g.F.Flash.state c.args.flash.now).faults
+    → IsInPace g.F.Flash.PAGES g.F.Flash.SLOTS g.F.Flash.SECTORS g.F.Flash.sector_start
+    (g.F.Flash.state c.put_in_spare.new.flash).words (extra + 1)
+put_lost g c = λ extra pace none.
     let slots = g.F.Flash.SLOTS in
     let pages = g.F.Flash.PAGES in
     let sectors = g.F.Flash.SECTORS in
@@ -142,29 +155,11 @@ returns-in_err-slot-clause-lost g c = λ extra pace none.
     (older_lost entries pages slots sectors start m place page known some names after c.requires.log.ring elsewhere
     extra failed (kept below) pace).pace
 
+pub returns-in_err-slot-clause-lost : goal.returns-in_err-slot-clause-lost
+returns-in_err-slot-clause-lost g c = put_lost g (goal.at.returns-in_err-slot-clause-lost g c).After-put_in_spare
+
 pub returns-clause-words : goal.returns-clause-words
-returns-clause-words g c =
-    let slots = g.F.Flash.SLOTS in
-    let pages = g.F.Flash.PAGES in
-    let sectors = g.F.Flash.SECTORS in
-    let start = g.F.Flash.sector_start in
-    let entries = g.F.Table.PageTable.entries in
-    let m = (g.F.Flash.state c.args.flash.now).words in
-    let place = c.args.place.now in
-    let page = place.older - 1 in
-    let known = c.requires.log.known c.requires.ready in
-    let is_older = c.if-place-eq0.false in
-    let names : page + 1 ≡ place.older = omega (arith, is_older) in
-    let some = g.met.F.Flash.sectors_fit.4 in
-    let after = (g.F.Flash.state c.put_in_spare.new.flash).words in
-    let base = spare_in slots place.turn in
-    let there : base_in slots c.spare.result ≡ base = c.spare.ensures.is slots in
-    let elsewhere : SameElsewhere m base (20 * slots) after =
-    subst (λ (b : ℕ). SameElsewhere m b (20 * slots) after) there
-    (subst (λ (l : List ℕ). SameElsewhere l (base_in slots c.spare.result) (20 * slots) after)
-    c.record_of.ensures.words c.put_in_spare.ensures.elsewhere) in
-    (older_stays entries pages slots sectors start m place page known some names after c.requires.log.ring
-    elsewhere).words
+returns-clause-words g c = put_words g (goal.at.returns-clause-words g c).After-put_in_spare
 
 pub returns-clause-log : goal.returns-clause-log
 returns-clause-log g c =
@@ -206,47 +201,7 @@ returns-clause-log g c =
     ∙ ap (λ (b : ℕ). page_word m b slots page k) (c.home.ensures.is slots))
 
 pub returns-clause-lost : goal.returns-clause-lost
-returns-clause-lost g c = λ extra pace none.
-    let slots = g.F.Flash.SLOTS in
-    let pages = g.F.Flash.PAGES in
-    let sectors = g.F.Flash.SECTORS in
-    let start = g.F.Flash.sector_start in
-    let entries = g.F.Table.PageTable.entries in
-    let old = g.F.Flash.state c.args.flash.now in
-    let mid = g.F.Flash.state c.record_of.new.flash in
-    let new = g.F.Flash.state c.put_in_spare.new.flash in
-    let m = old.words in
-    let place = c.args.place.now in
-    let page = place.older - 1 in
-    let known = c.requires.log.known c.requires.ready in
-    let is_older = c.if-place-eq0.false in
-    let names : page + 1 ≡ place.older = omega (arith, is_older) in
-    let some = g.met.F.Flash.sectors_fit.4 in
-    let after = new.words in
-    let base = spare_in slots place.turn in
-    let there : base_in slots c.spare.result ≡ base = c.spare.ensures.is slots in
-    let elsewhere : SameElsewhere m base (20 * slots) after =
-    subst (λ (b : ℕ). SameElsewhere m b (20 * slots) after) there
-    (subst (λ (l : List ℕ). SameElsewhere l (base_in slots c.spare.result) (20 * slots) after)
-    c.record_of.ensures.words c.put_in_spare.ensures.elsewhere) in
-    let words = c.in_ok-found.found in
-    let named : slice_index words 16 ≡ page = c.in_ok-found.ensures.names in
-    let read = c.in_ok-found.ensures.light.ok refl in
-    let same = read.faults in
-    let failed = new.faults - mid.faults in
-    let n = place.behind + 1 + failed in
-    let kept : n ≤ slots → KeepsOthers slots m base page after n = λ below.
-    subst (λ (p : ℕ). KeepsOthers slots m base p after n) named
-    (subst (λ (b : ℕ). KeepsOthers slots m b (slice_index words 16) after n) there
-    (subst (λ (l : List ℕ). KeepsOthers slots l (base_in slots c.spare.result) (slice_index words 16) after n)
-    c.record_of.ensures.words (c.put_in_spare.ensures.torn below))) in
-    let within = (older_has entries pages slots sectors start m place page known some names).free.within in
-    let full = c.if-place-SLOTS.false in
-    let all = c.SLOTS.ensures in
-    let below : n ≤ slots = omega (arith, within, full, all, none, same) in
-    in_pace_more pages slots sectors start after (extra + (failed + 1)) (extra + 1) (omega (arith, none, same))
-    (older_lost entries pages slots sectors start m place page known some names after c.requires.log.ring elsewhere
-    extra failed (kept below) pace).pace
+returns-clause-lost g c = put_lost g (goal.at.returns-clause-lost g c).After-put_in_spare
 
 pub returns-in_err-found-clause-stands : goal.returns-in_err-found-clause-stands
 returns-in_err-found-clause-stands g c = λ extra roomy pace.
