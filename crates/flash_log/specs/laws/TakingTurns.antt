@@ -274,9 +274,8 @@ module _ {T : Type 0} (pages slots sectors : ℕ) where
       let here : base ≡ base_in slots (turn_of slots new.words) = home ∙ sym (ap (base_in slots) turn) in
       puts_takes slots n (log_value pages slots sectors old p) (log_value pages slots sectors mid q)
       (log_value pages slots sectors new t) found
-      (subst (λ (k : ℕ). SameElsewhere mid.words (slot_of (base_in slots (turn_of slots mid.words)) k) 20 new.words) next
-      (subst (λ (b : ℕ). SameElsewhere mid.words (slot_of b q.next) 20 new.words) home only)) turn work
-      erases
+      (subst (λ (k : ℕ). SameElsewhere mid.words (slot_of (base_in slots (turn_of slots mid.words)) k) 20 new.words)
+      next (subst (λ (b : ℕ). SameElsewhere mid.words (slot_of b q.next) 20 new.words) home only)) turn work erases
       (subst (λ (k : ℕ). WillTake slots (log_value pages slots sectors new t) (k + 1)) next
       (takes (subst (λ (b : ℕ). AreFree new.words b (q.next + 1) slots) here free)))
 

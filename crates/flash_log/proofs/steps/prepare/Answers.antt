@@ -172,7 +172,8 @@ room_idle g c = λ ready far.
     c.catch_up.ensures.erases (c.catch_up.ensures.idle ready) (room.0 ∙ still.0) (room.1 ∙ still.1)
 
 pub returns-in_err-make_room-clause-idle : goal.returns-in_err-make_room-clause-idle
-returns-in_err-make_room-clause-idle g c = room_idle g (goal.at.returns-in_err-make_room-clause-idle g c).After-make_room
+returns-in_err-make_room-clause-idle g c =
+    room_idle g (goal.at.returns-in_err-make_room-clause-idle g c).After-make_room
 
 pub returns-clause-idle : goal.returns-clause-idle
 returns-clause-idle g c = room_idle g (goal.at.returns-clause-idle g c).After-make_room
@@ -322,7 +323,8 @@ room_lost g c = λ extra roomy same stands none.
     (c.catch_up.ensures.lost extra roomy stands) (c.take_step.ensures.lost extra) none
 
 pub returns-in_err-make_room-clause-lost : goal.returns-in_err-make_room-clause-lost
-returns-in_err-make_room-clause-lost g c = room_lost g (goal.at.returns-in_err-make_room-clause-lost g c).After-make_room
+returns-in_err-make_room-clause-lost g c =
+    room_lost g (goal.at.returns-in_err-make_room-clause-lost g c).After-make_room
 
 pub returns-clause-lost : goal.returns-clause-lost
 returns-clause-lost g c = room_lost g (goal.at.returns-clause-lost g c).After-make_room
@@ -461,7 +463,8 @@ room_turns g c = λ n far takes.
     still_next pages slots sectors old found last p q t n (room.0 ∙ still.0) (room.1 ∙ still.1) first
 
 pub returns-in_err-make_room-clause-turns : goal.returns-in_err-make_room-clause-turns
-returns-in_err-make_room-clause-turns g c = room_turns g (goal.at.returns-in_err-make_room-clause-turns g c).After-make_room
+returns-in_err-make_room-clause-turns g c =
+    room_turns g (goal.at.returns-in_err-make_room-clause-turns g c).After-make_room
 
 pub returns-clause-turns : goal.returns-clause-turns
 returns-clause-turns g c = room_turns g (goal.at.returns-clause-turns g c).After-make_room

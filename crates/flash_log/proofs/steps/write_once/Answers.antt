@@ -13,6 +13,9 @@ use Rattle.flash_log.specs.laws.Pacing.{stepped_more, stepped_paced}
 use Rattle.flash_log.specs.laws.TakingTurns.{far_stepped, finds_takes, found_takes, next_behind, next_is, put_in_area}
 use Rattle.flash_log.specs.laws.TakingTurns.{put_once, put_takes, takes_pace, tried_takes}
 use Rattle.flash_log.specs.laws.Turns.{turn_same, ring_same}
+use Rattle.flash_log.specs.Paces.{IsInPaceFrom, IsRoomy, WillKeepPace}
+use Rattle.flash_log.proofs.steps.write_once.Given.{Over}
+use Rattle.flash_log.proofs.steps.write_once.Goals.{After-write_run}
 use Rattle.flash_log.proofs.steps.write_once.Goals as goal
 
 pub write_run-requires-clause-home : goal.write_run-requires-clause-home
@@ -257,13 +260,19 @@ returns-in_err-prepare-clause-stands g c = λ extra roomy stands.
     (stepped_paced g.F.Flash.PAGES g.F.Flash.SLOTS g.F.Flash.SECTORS given c.prepare.new.place)
     (c.prepare.ensures.stands extra roomy stands)
 
-pub returns-in_err-write_run-clause-lost : goal.returns-in_err-write_run-clause-lost
-returns-in_err-write_run-clause-lost g c = λ extra roomy same pace none.
+-- Behind a record, whole or torn, the flash is in pace from the next slot on.
+run_pace : (g : Over) (c : After-write_run g) → (extra given : ℕ)
+    → IsRoomy g.F.Flash.PAGES g.F.Flash.SLOTS g.F.Flash.SECTORS
+    (extra + failed_since (g.F.Flash.state c.args.flash.now) (g.F.Flash.state c.prepare.new.flash))
+    → WillKeepPace g.F.Flash.PAGES g.F.Flash.SLOTS g.F.Flash.SECTORS g.F.Flash.sector_start
+    (g.F.Flash.state c.args.flash.now).words extra c.args.place.now
+    → extra + failed_since (g.F.Flash.state c.args.flash.now) (g.F.Flash.state c.prepare.new.flash) ≤ given
+    → IsInPaceFrom g.F.Flash.PAGES g.F.Flash.SLOTS g.F.Flash.SECTORS g.F.Flash.sector_start
+    (g.F.Flash.state c.write_run.new.flash).words given (c.prepare.new.place.next + 1)
+run_pace g c = λ extra given roomy pace fits.
     let slots = g.F.Flash.SLOTS in
     let pages = g.F.Flash.PAGES in
     let sectors = g.F.Flash.SECTORS in
-    let start = g.F.Flash.sector_start in
-    let entries = g.F.Table.PageTable.entries in
     let m = (g.F.Flash.state c.prepare.new.flash).words in
     let place = c.prepare.new.place in
     let known = c.prepare.ensures.log.known c.in_ok-prepare.ensures.ready in
@@ -278,88 +287,41 @@ returns-in_err-write_run-clause-lost g c = λ extra roomy same pace none.
     subst (λ (b : ℕ). (q : ℕ) → find after b slots q ≡ 0 → find m b slots q ≡ 0) home c.write_run.ensures.held in
     let old = g.F.Flash.state c.args.flash.now in
     let mid = g.F.Flash.state c.prepare.new.flash in
-    let new = g.F.Flash.state c.write_run.new.flash in
-    let less = (c.in_ok-prepare.ensures.light.ok refl).faults in
-    let more = lights_faults mid new c.write_run.result c.write_run.ensures.light in
-    (run_in_pace entries pages slots sectors start g.met.F.Flash.sectors_rise fit.0 fit.1 fit.2 fit.4 m after place
-    known c.in_ok-prepare.ensures.older elsewhere held c.args.page c.args.first c.args.words.now c.requires.run extra
-    (place.next + 1) (omega arith)
-    (stepped_more pages slots sectors (extra + failed_since old mid) extra place
-    (omega (arith, same, less, more))
-    ((c.in_ok-prepare.ensures.pause extra (omega (arith, roomy, same, less, more))).stays pace refl))
+    run_in_pace g.F.Table.PageTable.entries pages slots sectors g.F.Flash.sector_start g.met.F.Flash.sectors_rise fit.0
+    fit.1 fit.2 fit.4 m after place known c.in_ok-prepare.ensures.older elsewhere held c.args.page c.args.first
+    c.args.words.now c.requires.run given (place.next + 1) (omega arith)
+    (stepped_more pages slots sectors (extra + failed_since old mid) given place fits
+    ((c.in_ok-prepare.ensures.pause extra roomy).stays pace refl))
     c.write_run.ensures.marks
     (subst (λ (b : ℕ). AreFree after b (place.next + 1) slots) home c.write_run.ensures.free)
-    c.write_run.ensures.whole).pace
+    c.write_run.ensures.whole
+
+pub returns-in_err-write_run-clause-lost : goal.returns-in_err-write_run-clause-lost
+returns-in_err-write_run-clause-lost g c = λ extra roomy same pace none.
+    let mid = g.F.Flash.state c.prepare.new.flash in
+    let less = (c.in_ok-prepare.ensures.light.ok refl).faults in
+    let more = lights_faults mid (g.F.Flash.state c.write_run.new.flash) c.write_run.result c.write_run.ensures.light in
+    (run_pace g (goal.at.returns-in_err-write_run-clause-lost g c).After-write_run extra extra
+    (omega (arith, roomy, same, less, more)) pace (omega (arith, same, less, more))).pace
 
 pub returns-clause-lost : goal.returns-clause-lost
 returns-clause-lost g c = λ extra roomy same pace none.
-    let slots = g.F.Flash.SLOTS in
-    let pages = g.F.Flash.PAGES in
-    let sectors = g.F.Flash.SECTORS in
-    let start = g.F.Flash.sector_start in
-    let entries = g.F.Table.PageTable.entries in
-    let m = (g.F.Flash.state c.prepare.new.flash).words in
-    let place = c.prepare.new.place in
-    let known = c.prepare.ensures.log.known c.in_ok-prepare.ensures.ready in
-    let after = (g.F.Flash.state c.write_run.new.flash).words in
-    let fit = g.met.F.Flash.sectors_fit in
-    let home = c.home.ensures.is slots in
-    let elsewhere : SameElsewhere m (base_in slots place.turn) (20 * slots) after = put_in_area slots m after
-    (base_in slots place.turn) place.next (c.in_ok-prepare.ensures.room)
-    (subst (λ (b : ℕ). SameElsewhere m (slot_of b place.next) 20 after) home c.write_run.ensures.elsewhere) in
-    let held : (q : ℕ) → find after (base_in slots place.turn) slots q ≡ 0
-    → find m (base_in slots place.turn) slots q ≡ 0 =
-    subst (λ (b : ℕ). (q : ℕ) → find after b slots q ≡ 0 → find m b slots q ≡ 0) home c.write_run.ensures.held in
-    let old = g.F.Flash.state c.args.flash.now in
     let mid = g.F.Flash.state c.prepare.new.flash in
     let less = (c.in_ok-prepare.ensures.light.ok refl).faults in
-    let more = (c.in_ok-write_run.ensures.light.ok refl).faults in
-    (run_in_pace entries pages slots sectors start g.met.F.Flash.sectors_rise fit.0 fit.1 fit.2 fit.4 m after place
-    known c.in_ok-prepare.ensures.older elsewhere held c.args.page c.args.first c.args.words.now c.requires.run extra
-    (place.next + 1) (omega arith)
-    (stepped_more pages slots sectors (extra + failed_since old mid) extra place
-    (omega (arith, same, less, more))
-    ((c.in_ok-prepare.ensures.pause extra (omega (arith, roomy, same, less, more))).stays pace refl))
-    c.write_run.ensures.marks
-    (subst (λ (b : ℕ). AreFree after b (place.next + 1) slots) home c.write_run.ensures.free)
-    c.write_run.ensures.whole).pace
+    let more = lights_faults mid (g.F.Flash.state c.write_run.new.flash) c.write_run.result c.write_run.ensures.light in
+    (run_pace g (goal.at.returns-clause-lost g c).After-write_run extra extra
+    (omega (arith, roomy, same, less, more)) pace (omega (arith, same, less, more))).pace
 
 pub returns-in_err-write_run-clause-stands : goal.returns-in_err-write_run-clause-stands
 returns-in_err-write_run-clause-stands g c = λ extra roomy pace.
-    let slots = g.F.Flash.SLOTS in
-    let pages = g.F.Flash.PAGES in
-    let sectors = g.F.Flash.SECTORS in
-    let start = g.F.Flash.sector_start in
-    let entries = g.F.Table.PageTable.entries in
-    let m = (g.F.Flash.state c.prepare.new.flash).words in
-    let place = c.prepare.new.place in
-    let known = c.prepare.ensures.log.known c.in_ok-prepare.ensures.ready in
-    let after = (g.F.Flash.state c.write_run.new.flash).words in
-    let fit = g.met.F.Flash.sectors_fit in
-    let home = c.home.ensures.is slots in
-    let elsewhere : SameElsewhere m (base_in slots place.turn) (20 * slots) after = put_in_area slots m after
-    (base_in slots place.turn) place.next (c.in_ok-prepare.ensures.room)
-    (subst (λ (b : ℕ). SameElsewhere m (slot_of b place.next) 20 after) home c.write_run.ensures.elsewhere) in
-    let held : (q : ℕ) → find after (base_in slots place.turn) slots q ≡ 0
-    → find m (base_in slots place.turn) slots q ≡ 0 =
-    subst (λ (b : ℕ). (q : ℕ) → find after b slots q ≡ 0 → find m b slots q ≡ 0) home c.write_run.ensures.held in
     let old = g.F.Flash.state c.args.flash.now in
     let mid = g.F.Flash.state c.prepare.new.flash in
     let new = g.F.Flash.state c.write_run.new.flash in
     let more = lights_faults mid new c.write_run.result c.write_run.ensures.light in
-    let given = extra + lost_since old new in
     inr (
       refl,
-      run_in_pace entries pages slots sectors start g.met.F.Flash.sectors_rise fit.0 fit.1 fit.2 fit.4 m after
-          place known c.in_ok-prepare.ensures.older elsewhere held c.args.page c.args.first c.args.words.now
-          c.requires.run given
-          (place.next + 1) (omega arith)
-          (stepped_more pages slots sectors (extra + failed_since old mid) given place
-          (omega (arith, more))
-          ((c.in_ok-prepare.ensures.pause extra (omega (arith, roomy, more))).stays pace refl))
-          c.write_run.ensures.marks
-          (subst (λ (b : ℕ). AreFree after b (place.next + 1) slots) home c.write_run.ensures.free)
-          c.write_run.ensures.whole,
+      run_pace g (goal.at.returns-in_err-write_run-clause-stands g c).After-write_run extra
+          (extra + lost_since old new) (omega (arith, roomy, more)) pace (omega (arith, more)),
     )
 
 pub returns-clause-stands : goal.returns-clause-stands
