@@ -46,7 +46,9 @@
  *   what the pointer points to, and doesn't copy a pointer to use both copies.
  * - It makes one call at a time for each card. Another thread may make the next call. Different cards are independent.
  * - Its buffers are valid for the call, and don't overlap.
- * - It makes no call from a signal handler, nor in a child of fork that is part of a process with threads.
+ * - It makes no call from a signal handler, nor in a child of fork that is part of a process with threads. A child of
+ *   fork runs no card with a device.
+ * - A device has one card at a time. Two cards would each give the tries of their PINs.
  * - malloc and free are of one allocator.
  *
  * All other input is tested: no length, number, command or block is wrong to pass.

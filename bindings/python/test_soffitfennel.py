@@ -2,8 +2,11 @@
 
 from __future__ import annotations
 
+import copy
 import doctest
+import fcntl
 import os
+import pickle
 import subprocess
 import sys
 import tempfile
@@ -217,7 +220,45 @@ class Files(unittest.TestCase):
         with Card.attach(self.path):
             with self.assertRaisesRegex(BlockingIOError, "another program uses the card"):
                 Card.attach(self.path)
+            with open(self.path, "rb") as other, self.assertRaises(BlockingIOError):
+                fcntl.flock(other, fcntl.LOCK_SH | fcntl.LOCK_NB)
         Card.attach(self.path).close()
+
+    def test_one_card_of_a_descriptor(self) -> None:
+        file = os.open(self.path, os.O_RDWR)
+        self.addCleanup(os.close, file)
+        with Card.attach(file):
+            with self.assertRaisesRegex(BlockingIOError, "another program uses the card"):
+                Card.attach(file)
+        Card.attach(file).close()
+
+    def test_no_copy(self) -> None:
+        copies: list[Callable[[Any], Any]] = [copy.copy, copy.deepcopy, pickle.dumps]
+        with Card.attach(self.path) as card:
+            for it in (card, Reader()):
+                for copied in copies:
+                    with self.assertRaisesRegex(TypeError, "can't be copied"):
+                        copied(it)
+
+    def test_a_child_has_no_card(self) -> None:
+        card = Card.attach(self.path)
+        card.power_on()
+        before = self.path.read_bytes()
+        child = os.fork()
+        if child == 0:
+            try:
+                card.transmit(VERIFY)
+            except ValueError:
+                card.close()
+                os._exit(0)
+            finally:
+                os._exit(1)
+        self.assertEqual(os.waitpid(child, 0)[1], 0)
+        self.assertEqual(self.path.read_bytes(), before)
+        with self.assertRaises(BlockingIOError):
+            Card.attach(self.path)
+        self.assertEqual(iccid(card), ICCID)
+        card.close()
 
     def test_other_files(self) -> None:
         link, pipe = self.path.with_name("link"), self.path.with_name("pipe")

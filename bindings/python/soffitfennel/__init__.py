@@ -16,6 +16,7 @@ from __future__ import annotations
 
 import ctypes
 import enum
+import errno
 import fcntl
 import os
 import stat
@@ -24,7 +25,7 @@ import threading
 from array import array
 from pathlib import Path
 from types import TracebackType
-from typing import Any, Callable, NamedTuple, Sequence, Union
+from typing import Any, Callable, NamedTuple, NoReturn, Sequence, Union
 
 __all__ = ["ATR", "Card", "CardError", "FreeSpace", "Outcome", "PAGES", "Reader", "State", "library_version"]
 __version__ = "0.2.0"
@@ -145,8 +146,37 @@ def _check(outcome: int) -> None:
         raise CardError(outcome)
 
 
+# the device and inode of each file that a card of this process has (a lock belongs to an open file, and the descriptors
+# of one open file share it)
+_used: set[tuple[int, int]] = set()
+# (the end of another card can come within a block that holds it)
+_used_lock = threading.RLock()
+
+
+def _key(descriptor: int) -> tuple[int, int]:
+    """What names a file in this machine."""
+    told = os.fstat(descriptor)
+    return told.st_dev, told.st_ino
+
+
+def _hold(descriptor: int) -> None:
+    """Keeps all other cards, of this process and others, from a file."""
+    with _used_lock:
+        if _key(descriptor) in _used:
+            raise BlockingIOError(errno.EWOULDBLOCK, "in use")
+        fcntl.flock(descriptor, fcntl.LOCK_EX | fcntl.LOCK_NB)
+        _used.add(_key(descriptor))
+
+
+def _close(descriptor: int) -> None:
+    """Gives a card's file back."""
+    with _used_lock:
+        _used.discard(_key(descriptor))
+        os.close(descriptor)
+
+
 def _open(file: File, sync: bool) -> int:
-    """A descriptor of ours for a card's file, which no other program may use meanwhile."""
+    """A descriptor of ours for a card's file, which nobody else may use meanwhile."""
     flags = os.O_RDWR | os.O_CLOEXEC | os.O_NOFOLLOW | os.O_NONBLOCK | (os.O_DSYNC if sync else 0)
     if isinstance(file, int):
         descriptor = fcntl.fcntl(file, fcntl.F_DUPFD_CLOEXEC, 0)
@@ -155,7 +185,7 @@ def _open(file: File, sync: bool) -> int:
     try:
         if not stat.S_ISREG(os.fstat(descriptor).st_mode):
             raise ValueError(f"{file} is no regular file")
-        fcntl.flock(descriptor, fcntl.LOCK_EX | fcntl.LOCK_NB)
+        _hold(descriptor)
     except BlockingIOError as error:
         os.close(descriptor)
         raise BlockingIOError(error.errno, "another program uses the card", file) from None
@@ -176,7 +206,14 @@ def _words_of(descriptor: int) -> array[int]:
     return words
 
 
-class Card:
+class _Single:
+    """An object that no copy stands for: two would share a memory and a file, and give tries of PINs twice."""
+
+    def __reduce__(self) -> NoReturn:
+        raise TypeError(f"a {type(self).__name__} can't be copied")
+
+
+class Card(_Single):
     """A card, with its memory and its end of the link.
 
     >>> with Card(pages=4096) as card:
@@ -187,7 +224,7 @@ class Card:
     def __init__(self, words: Sequence[int] | None = None, *, pages: int = PAGES):
         """The card whose memory has these words, or the factory card on a memory of so many pages; with power off."""
         self._lock = threading.Lock()
-        self._at, self._device = ctypes.c_void_p(), -1
+        self._at, self._device, self._process = ctypes.c_void_p(), -1, os.getpid()
         if words is None:
             _check(_library.soffitfennel_factory(self._at, _number(pages)))
         else:
@@ -211,7 +248,7 @@ class Card:
         file, until it is closed. With sync the disk has each write before the next one; else a loss of power of the
         machine can leave no card in the file."""
         card = cls.__new__(cls)
-        card._lock, card._at = threading.Lock(), ctypes.c_void_p()
+        card._lock, card._at, card._process = threading.Lock(), ctypes.c_void_p(), os.getpid()
         card._device = _open(file, sync)
         try:
             card._insert(_words_of(card._device))
@@ -236,13 +273,15 @@ class Card:
             device, self._device = self._device, -1
             _library.soffitfennel_free(self._at)
             if device >= 0:
-                os.close(device)
+                _close(device)
 
     def _call(self, by: Callable[..., int], *given: Any) -> None:
         """A call of the library, one at a time."""
         with self._lock:
             if not self._at:
                 raise ValueError("the card is closed")
+            if self._device >= 0 and self._process != os.getpid():
+                raise ValueError("a child of fork has no card in a file: close it, and attach the file again")
             _check(by(self._at, *given))
 
     def power_on(self) -> bytes:
@@ -302,7 +341,7 @@ class Card:
         return words[: size.value]
 
 
-class Reader:
+class Reader(_Single):
     """A reader's end of T=1: it makes blocks of a command, and an answer of the card's blocks.
 
     >>> with Card() as card, Reader() as reader:

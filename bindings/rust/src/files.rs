@@ -1,8 +1,9 @@
 //! A card whose memory is in a file.
 use std::fs::File;
 use std::io;
-use std::os::unix::fs::FileExt;
+use std::os::unix::fs::{FileExt, MetadataExt};
 use std::os::unix::io::AsRawFd;
+use std::sync::{Mutex, MutexGuard, PoisonError};
 use std::vec::Vec;
 
 use crate::{Card, Error, MOST_WORDS};
@@ -12,6 +13,44 @@ const LOCK_AT_ONCE: i32 = 4;
 
 extern "C" {
     fn flock(file: i32, operation: i32) -> i32;
+}
+
+/// The device and inode of each file that a card of this process has. A lock belongs to an open file, and the clones of
+/// a [`File`] share it.
+static USED: Mutex<Vec<(u64, u64)>> = Mutex::new(Vec::new());
+
+fn used() -> MutexGuard<'static, Vec<(u64, u64)>> {
+    USED.lock().unwrap_or_else(PoisonError::into_inner)
+}
+
+/// A file that one card has.
+#[derive(Debug)]
+pub(crate) struct Held {
+    file: File,
+    key: (u64, u64),
+}
+
+impl Held {
+    /// Keeps all other cards, of this process and others, from a file.
+    fn new(file: File) -> io::Result<Held> {
+        let told = file.metadata()?;
+        let (key, mut used) = ((told.dev(), told.ino()), used());
+        if used.contains(&key) {
+            return Err(io::ErrorKind::WouldBlock.into());
+        }
+        // SAFETY: the descriptor is open.
+        if unsafe { flock(file.as_raw_fd(), LOCK_EXCLUSIVE | LOCK_AT_ONCE) } != 0 {
+            return Err(io::Error::last_os_error());
+        }
+        used.push(key);
+        Ok(Held { file, key })
+    }
+}
+
+impl Drop for Held {
+    fn drop(&mut self) {
+        used().retain(|it| *it != self.key);
+    }
 }
 
 impl From<Error> for io::Error {
@@ -37,14 +76,11 @@ impl Card {
         if !file.metadata()?.is_file() {
             return Err(io::Error::new(io::ErrorKind::InvalidInput, "it is no regular file"));
         }
-        // SAFETY: the descriptor is open.
-        if unsafe { flock(file.as_raw_fd(), LOCK_EXCLUSIVE | LOCK_AT_ONCE) } != 0 {
-            return Err(io::Error::last_os_error());
-        }
-        let words = words_of(&file)?;
+        let held = Held::new(file)?;
+        let words = words_of(&held.file)?;
         // SAFETY: the card owns the file.
-        let mut card = unsafe { Card::attach_raw(&words, file.as_raw_fd()) }?;
-        card.file = Some(file);
+        let mut card = unsafe { Card::attach_raw(&words, held.file.as_raw_fd()) }?;
+        card.file = Some(held);
         Ok(card)
     }
 }

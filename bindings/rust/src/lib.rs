@@ -187,7 +187,7 @@ pub struct Card {
     pointer: Pointer,
     // (dropped behind the card, which writes to it)
     #[cfg(all(feature = "std", unix))]
-    file: Option<std::fs::File>,
+    file: Option<files::Held>,
 }
 
 // SAFETY: a card has no state outside of its memory and its file, so another thread may make the next call.

@@ -1,6 +1,7 @@
 //! A card in safe Rust. The answers are those of examples/torn_pair.out and docs/CARD.md.
 use std::fs::{File, OpenOptions};
 use std::io;
+use std::os::unix::io::AsRawFd;
 use std::path::PathBuf;
 
 use soffitfennel::{Card, Error, FreeSpace, Reader, Step, MOST_PAGES, MOST_WORDS, ROOM, WORDS};
@@ -10,6 +11,12 @@ const READ_ICCID: [u8; 5] = [0x00, 0xB0, 0x00, 0x00, 0x0A];
 const ICCID: [u8; 12] = [0x98, 0x10, 0x32, 0x54, 0x76, 0x98, 0x10, 0x32, 0x54, 0x76, 0x90, 0x00];
 const VERIFY: [u8; 13] = [0x00, 0x20, 0x00, 0x01, 0x08, 0x31, 0x32, 0x33, 0x34, 0xFF, 0xFF, 0xFF, 0xFF];
 const UPDATE: [u8; 9] = [0x00, 0xD6, 0x00, 0x00, 0x04, 0x01, 0x02, 0x03, 0x04];
+
+const LOCK_SHARED_AT_ONCE: i32 = 5;
+
+extern "C" {
+    fn flock(file: i32, operation: i32) -> i32;
+}
 
 fn powered() -> Result<Card, Error> {
     let mut card = Card::factory()?;
@@ -95,8 +102,21 @@ fn a_file_has_one_user() -> io::Result<()> {
     let kept = Kept::new("user")?;
     let card = Card::attach(kept.open()?)?;
     assert_eq!(Card::attach(kept.open()?).err().map(|it| it.kind()), Some(io::ErrorKind::WouldBlock));
+    // SAFETY: the descriptor is open.
+    assert_ne!(unsafe { flock(kept.open()?.as_raw_fd(), LOCK_SHARED_AT_ONCE) }, 0);
     drop(card);
     Card::attach(kept.open()?).map(drop)
+}
+
+#[test]
+fn a_clone_of_a_file_has_no_other_card() -> io::Result<()> {
+    let kept = Kept::new("clone")?;
+    let file = kept.open()?;
+    let other = file.try_clone()?;
+    let card = Card::attach(file)?;
+    assert_eq!(Card::attach(other.try_clone()?).err().map(|it| it.kind()), Some(io::ErrorKind::WouldBlock));
+    drop(card);
+    Card::attach(other).map(drop)
 }
 
 #[test]
