@@ -30,6 +30,14 @@ def compare_port(room: Room) -> None:
             room.checks.same(found, [[it] for it in wanted], f"the {size.what} in {place}")
 
 
+def compare_make(room: Room) -> None:
+    """The README's make takes no words: it has a rule for each program."""
+    ran = tool("make", "-n", "-C", room.device)
+    room.checks.same((ran.returncode, ran.stderr), (0, ""), "make in the C of a port")
+    for name in ("card", "duties"):
+        room.checks.check(f"/{name}.elf " in ran.stdout, f"make builds {name}.elf", ran.stdout)
+
+
 def compare_notes(room: Room) -> None:
     """A port with too few slots for short writes is written, and a note says how many would do (docs/FLASH.md, "The
     pause"). By hand: 4,096 pages need 4,096 + 512 + 1 slots and one for each of 2 sectors. 1,024 need 1,153 and one for
@@ -122,5 +130,5 @@ def compare_image(room: Room) -> None:
 
 def compare(room: Room) -> None:
     """All of them."""
-    for it in (compare_port, compare_notes, compare_mistakes, compare_slots, compare_image):
+    for it in (compare_port, compare_make, compare_notes, compare_mistakes, compare_slots, compare_image):
         it(room)
