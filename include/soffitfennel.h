@@ -160,7 +160,8 @@ int32_t soffitfennel_attach(soffitfennel_card **card, const uint32_t *words, siz
  *
  * The library has a function of this name for files. There the device's number is a descriptor that is open for
  * writing, and stays open and belongs to that file as long as the card lives: the system gives the number of a closed
- * descriptor to the next file, and the card would write into that. The file isn't mapped. Without O_DSYNC a write
+ * descriptor to the next file, and the card would write into that. It is above 2, so that no standard stream writes
+ * into the card. The file isn't mapped. Without O_DSYNC a write
  * survives the end of the program, but not a loss of power of the machine: page caches write in any order, so the image
  * can then hold no card at all. With O_DSYNC each write is on the disk before the next one.
  *

@@ -192,6 +192,19 @@ static bool make_card(const char *path, const char *folder, uint32_t *words)
     return is_made;
 }
 
+/* The file at a descriptor above those of the standard streams. (A process without one of them gives its number to the
+ * next file, and would write its messages into the card.) */
+static int above_streams(int file)
+{
+    int above = file < 0 || file > STDERR_FILENO ? file : fcntl(file, F_DUPFD_CLOEXEC, STDERR_FILENO + 1);
+    int error = errno;
+
+    if (above != file)
+        close(file);
+    errno = error;
+    return above;
+}
+
 /* Opens the file, which no other program may use meanwhile. -1: it can't, and the log says why. */
 static int open_locked(const char *path, bool sync)
 {
@@ -204,7 +217,7 @@ static int open_locked(const char *path, bool sync)
         return say(path, "it is no regular file (DEVICENAME names the file of a card)"), -1;
     if (told.st_size == 0)
         return say(path, "it is empty: put a copy of the card there, or remove it and get a new card"), -1;
-    file = open(path, O_RDWR | O_CLOEXEC | O_NOFOLLOW | O_NONBLOCK | (sync ? O_DSYNC : 0));
+    file = above_streams(open(path, O_RDWR | O_CLOEXEC | O_NOFOLLOW | O_NONBLOCK | (sync ? O_DSYNC : 0)));
     if (file >= 0 && flock(file, LOCK_EX | LOCK_NB) == 0)
         return file;
     say(path, errno == EWOULDBLOCK ? "another program uses it" : strerror(errno));

@@ -232,6 +232,17 @@ class Files(unittest.TestCase):
                 Card.attach(file)
         Card.attach(file).close()
 
+    def test_no_card_in_place_of_a_stream(self) -> None:
+        before = self.path.read_bytes()
+        program = (
+            "import os, sys, soffitfennel\nos.closerange(0, 3)\n"
+            "card = soffitfennel.Card.attach(sys.argv[1])\n"
+            "for it in range(3):\n try: os.write(it, b'message')\n except OSError: pass\n"
+        )
+        environment = {**os.environ, "PYTHONPATH": str(Path(__file__).parent)}
+        subprocess.run([sys.executable, "-c", program, str(self.path)], check=True, env=environment)
+        self.assertEqual(self.path.read_bytes(), before)
+
     def test_no_copy(self) -> None:
         copies: list[Callable[[Any], Any]] = [copy.copy, copy.deepcopy, pickle.dumps]
         with Card.attach(self.path) as card:

@@ -91,6 +91,19 @@ static bool make_card(const char *path)
     return make_file(path, image.words, sizeof *image.words * count);
 }
 
+/* The file at a descriptor above those of the standard streams. (A process without one of them gives its number to the
+ * next file, and would write its messages into the card.) */
+static int above_streams(int file)
+{
+    int above = file < 0 || file > STDERR_FILENO ? file : fcntl(file, F_DUPFD_CLOEXEC, STDERR_FILENO + 1);
+    int error = errno;
+
+    if (above != file)
+        close(file);
+    errno = error;
+    return above;
+}
+
 /* Opens the file, for this program alone. -1: it can't. */
 static int open_file(const char *path)
 {
@@ -102,6 +115,7 @@ static int open_file(const char *path)
             return -1;
         file = open(path, O_RDWR | O_DSYNC | O_CLOEXEC | O_NOFOLLOW | O_NONBLOCK);
     }
+    file = above_streams(file);
     if (file < 0)
         return say(path, errno == ELOOP ? "it is a symbolic link" : strerror(errno)), -1;
     if (fstat(file, &told) != 0 || !S_ISREG(told.st_mode))

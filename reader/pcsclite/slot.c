@@ -45,10 +45,23 @@ int64_t soffitfennel_store(int32_t device, const void *bytes, size_t size, int64
     return stored;
 }
 
+/* The file at a descriptor above those of the standard streams. (A process without one of them gives its number to the
+ * next file, and would write its messages into the card.) */
+static int above_streams(int file)
+{
+    int above = file < 0 || file > STDERR_FILENO ? file : fcntl(file, F_DUPFD_CLOEXEC, STDERR_FILENO + 1);
+    int error = errno;
+
+    if (above != file)
+        close(file);
+    errno = error;
+    return above;
+}
+
 /* Opens a plain file, and no link. -1: it can't. */
 static int open_file(const char *path)
 {
-    int file = open(path, O_RDWR | O_CLOEXEC | O_NOFOLLOW | O_NONBLOCK | O_NOCTTY);
+    int file = above_streams(open(path, O_RDWR | O_CLOEXEC | O_NOFOLLOW | O_NONBLOCK | O_NOCTTY));
     struct stat told;
 
     if (file < 0)
@@ -171,7 +184,7 @@ bool slot_open(struct slot *slot, const struct settings *settings, int number)
         if (session == &own_session)
             join_session(settings->session);
         if (settings->log != NULL)
-            slot->log = open(settings->log, O_WRONLY | O_APPEND | O_CLOEXEC | O_NOFOLLOW);
+            slot->log = above_streams(open(settings->log, O_WRONLY | O_APPEND | O_CLOEXEC | O_NOFOLLOW));
         arm(slot, settings);
     }
     return true;

@@ -175,13 +175,23 @@ def _close(descriptor: int) -> None:
         os.close(descriptor)
 
 
+def _above_streams(descriptor: int) -> int:
+    """A copy of a descriptor above those of the standard streams: a process without one of them gives its number to the
+    next file, and would write its messages into the card."""
+    return fcntl.fcntl(descriptor, fcntl.F_DUPFD_CLOEXEC, 3)
+
+
 def _open(file: File, sync: bool) -> int:
     """A descriptor of ours for a card's file, which nobody else may use meanwhile."""
     flags = os.O_RDWR | os.O_CLOEXEC | os.O_NOFOLLOW | os.O_NONBLOCK | (os.O_DSYNC if sync else 0)
     if isinstance(file, int):
-        descriptor = fcntl.fcntl(file, fcntl.F_DUPFD_CLOEXEC, 0)
+        descriptor = _above_streams(file)
     else:
-        descriptor = os.open(file, flags)
+        opened = os.open(file, flags)
+        try:
+            descriptor = _above_streams(opened)
+        finally:
+            os.close(opened)
     try:
         if not stat.S_ISREG(os.fstat(descriptor).st_mode):
             raise ValueError(f"{file} is no regular file")

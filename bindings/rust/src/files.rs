@@ -8,6 +8,7 @@ use std::vec::Vec;
 
 use crate::{Card, Error, MOST_WORDS};
 
+const LAST_STREAM: i32 = 2;
 const LOCK_EXCLUSIVE: i32 = 2;
 const LOCK_AT_ONCE: i32 = 4;
 
@@ -76,6 +77,8 @@ impl Card {
         if !file.metadata()?.is_file() {
             return Err(io::Error::new(io::ErrorKind::InvalidInput, "it is no regular file"));
         }
+        // (a process without a standard stream gives its number to the next file; a clone is above them)
+        let file = if file.as_raw_fd() <= LAST_STREAM { file.try_clone()? } else { file };
         let held = Held::new(file)?;
         let words = words_of(&held.file)?;
         // SAFETY: the card owns the file.

@@ -102,6 +102,8 @@ def test_kept_mistakes(tests: Tests) -> None:
     card = room / "card"
     for lock in ("-x", "-s"):
         tests.refuses(f"a file with a lock {lock}", "another program uses it", "flock", lock, card, program, card)
+    tests.call("bash", "-c", 'exec "$0" "$1" >&-', program, card)
+    tests.run("a card goes on behind a run without an output", program, card)
     left = sorted(it.name for it in room.iterdir())
     wanted = ["blank", "card", "empty", "large", "link", "odd", "pipe", "short"]
     tests.holds(left == wanted, "files that are left", str(left))
