@@ -40,6 +40,7 @@ class Progress:
 
     def draw(self) -> None:
         """Writes the line in place of the one before."""
-        text = f"{self.tool}: {self.what}, {time.monotonic() - self.began:.0f} s .."
+        # (within the lock, so that no line is drawn behind a later one)
         with self.lock:
+            text = f"{self.tool}: {self.what}, {time.monotonic() - self.began:.0f} s .."
             print(f"\r\033[K{text[: shutil.get_terminal_size().columns - 1]}", end="", file=sys.stderr, flush=True)

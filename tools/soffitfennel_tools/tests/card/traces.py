@@ -4,6 +4,7 @@ import shutil
 import subprocess
 import time
 from collections.abc import Iterator
+from contextlib import suppress
 from dataclasses import dataclass
 from pathlib import Path
 
@@ -103,8 +104,10 @@ def made_beside(bench: Bench, other: bytes, seconds: int) -> tuple[bool, tuple[i
     process = subprocess.Popen(words, stdin=pipe, stdout=pipe, stderr=pipe)
     end = time.monotonic() + PATIENCE
     while time.monotonic() < end:
-        if any(it.stat().st_size == len(other) for it in set(folder.iterdir()) - before):
-            break
+        # (behind the delay the bench's own file goes)
+        with suppress(FileNotFoundError):
+            if any(it.stat().st_size == len(other) for it in set(folder.iterdir()) - before):
+                break
         time.sleep(0.005)
     try:
         with open(bench.image, "xb") as file:

@@ -9,6 +9,7 @@ import signal
 import subprocess
 import time
 from concurrent.futures import ThreadPoolExecutor
+from contextlib import suppress
 from pathlib import Path
 
 from .checks import AARCH64, EXAMPLES, TOP, Tests, library_folder
@@ -126,7 +127,9 @@ def answered_until_kill(words: list[str], seconds: float) -> int:
             lines.append(line)
         time.sleep(seconds)
         for child in Path(f"/proc/{reader.pid}/task/{reader.pid}/children").read_text(encoding="ascii").split():
-            os.kill(int(child), signal.SIGKILL)
+            # (the session may have come to its end)
+            with suppress(ProcessLookupError):
+                os.kill(int(child), signal.SIGKILL)
         lines += reader.stdout.readlines()
     return max(0, lines.count("< 9000\n") - 2)
 
