@@ -83,6 +83,18 @@ def wait_for(holds: Callable[[], bool], what: str) -> None:
         time.sleep(0.05)
 
 
+def ended(process: subprocess.Popen[bytes]) -> bool:
+    """Asks a process to end; whether it does. One that doesn't is killed."""
+    process.terminate()
+    try:
+        process.wait(PATIENCE)
+    except subprocess.TimeoutExpired:
+        process.kill()
+        process.wait()
+        return False
+    return True
+
+
 def look_around() -> None:
     """Looks whether another service is in the way."""
     # (a socket without a service is left where one was killed)
@@ -110,8 +122,7 @@ class Service:
         return self
 
     def __exit__(self, *_: object) -> None:
-        self.process.terminate()
-        self.process.wait()
+        ended(self.process)
         self.readers.cleanup()
 
 
@@ -133,8 +144,8 @@ class Card:
         return self
 
     def __exit__(self, *_: object) -> None:
-        self.bridge.terminate()
-        self.bridge.wait()
+        if not ended(self.bridge):
+            raise TimeoutError("the bridge doesn't end")
         try:
             wait_for(lambda: not has_card(), "the card stays in the reader")
         except TimeoutError:
