@@ -315,7 +315,7 @@ impl<F: Flash> Board for FlashBoard<F> {
             → (log_state self.new).flash.faults ≡ (log_state self.old).flash.faults
             → TakesSlot (log_state self.old).flash (log_state self.new).flash ((log_state self.old).paced ≡ true)
             (log_state self.old).free (log_state self.new).free result }
-        // As long as no step of a move is due, each try takes the next slot: a Fault takes one slot at most.
+        // As long as no step of a move is due, the tries take the next slots: at most one, and one for each Fault.
         ensures slots { (n : ℕ) → n + lead_of F.PAGES F.SECTORS
             + ((log_state self.new).flash.faults - (log_state self.old).flash.faults) < F.SLOTS
             → WillTake F.SLOTS (log_state self.old) n

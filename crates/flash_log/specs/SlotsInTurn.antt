@@ -20,9 +20,9 @@ pub record WillTake (slots : ℕ) (l : LogState) (n : ℕ) : Type 0 where
   pub next : IsNextSlot slots l.raw (passed_slots slots l) n
   pub paced : l.ready ≡ true → l.paced ≡ true
 
--- Tries of a write take slots from n on, so many at most. The next write begins behind them: no slot is taken again,
--- even if it reads blank. Each got at most two programs, of a record and its mark. No other word of the flash changed,
--- and nothing was erased.
+-- Tries of a write take slots from n on, so many at most, and the next write begins behind them: until power-on no slot
+-- is taken again, even if it reads blank. Together they got at most two programs a slot, of a record and its mark. No
+-- other word of the flash changed, and nothing was erased.
 pub record TakesInTurn (slots n most : ℕ) (old new : LogState) : Type 0 where
   pub next : ℕ
   pub takes : WillTake slots new next

@@ -86,6 +86,8 @@ impl<F: Flash> FlashLog<F> {
         ensures log { IfOk result (λ l. l ≡ new_log F.PAGES F.SLOTS (F.state flash)) }
         ensures has_log { IfOk result (λ _. IsRing F.SLOTS (F.state flash).words) }
         ensures stopped { IfErr result (λ e. OpenStopsBy F.SLOTS e.1 (F.state flash) (F.state e.0)) }
+        ensures work { IfErr result (λ e. ((F.state e.0).operations ≡ (F.state flash).operations)
+            × ((F.state e.0).erases ≡ (F.state flash).erases)) }
     {
         let mut flash = flash;
         match has_ring(&mut flash) {
@@ -198,7 +200,7 @@ impl<F: Flash> FlashLog<F> {
         ensures calm { lead_of F.PAGES F.SECTORS < self.old.free
             → self.new.flash.faults ≡ self.old.flash.faults
             → TakesSlot self.old.flash self.new.flash (self.old.paced ≡ true) self.old.free self.new.free result }
-        // As long as no step of a move is due, each try takes the next slot: a Fault takes one slot at most.
+        // As long as no step of a move is due, the tries take the next slots: at most one, and one for each Fault.
         ensures slots { (n : ℕ)
             → n + lead_of F.PAGES F.SECTORS + (self.new.flash.faults - self.old.flash.faults) < F.SLOTS
             → WillTake F.SLOTS self.old n
