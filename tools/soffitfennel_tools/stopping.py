@@ -18,7 +18,7 @@ class Stopped(BaseException):
 def wake_for_signals() -> None:
     """Lets the tool look for signals now and then while it waits. Python notes a signal and looks for it between two of
     its own steps: one that comes just before a step that waits would be seen when the wait ends, and that may be never.
-    (No process that the tool starts inherits the timer.)"""
+    (A process that the tool starts has no timer; a tool that becomes another by exec would have to stop it.)"""
     signal.signal(signal.SIGALRM, lambda *_: None)
     signal.setitimer(signal.ITIMER_REAL, TICK, TICK)
     # (Python takes its handlers away before it has ended: then the timer would end the tool by its signal)
