@@ -128,6 +128,8 @@ class Signals(Session):
         self.assertEqual(int(blocked.split()[1], 16), 0, blocked)
 
     def test_a_signal_reaches_a_program_that_has_just_begun(self) -> None:
+        # (under nohup the program would ignore it)
+        self.addCleanup(signal.signal, signal.SIGHUP, signal.signal(signal.SIGHUP, signal.SIG_DFL))
         for name, status in (("TERM", 143), ("HUP", 129)) * 3:
             begun = time.monotonic()
             came = self.with_card("--fresh", "--", "sh", "-c", f"kill -{name} $PPID; exec sleep {PATIENCE}")
