@@ -559,6 +559,13 @@ class Refusals(Session):
         self.assertIn("its file takes no more; the card is out", came.stderr)
 
     @needs_pyscard
+    def test_no_stream_is_in_a_card(self) -> None:
+        card = self.image("purse")
+        before = card.read_bytes()
+        came = self.with_card(card, "--", DEBIAN_PYTHON, PROGRAMS / "streamless.py")
+        self.assertEqual((came.returncode, card.read_bytes() == before), (0, True), came.stderr)
+
+    @needs_pyscard
     def test_the_library_itself_takes_no_wrong_file(self) -> None:
         card = self.image("purse")
         (self.room / "link").symlink_to(card)
