@@ -1,9 +1,11 @@
 """The command line of a tool, and arguments of it."""
+import os
 import re
 import sys
 import textwrap
 from argparse import ArgumentParser, ArgumentTypeError, HelpFormatter
 from collections.abc import Callable
+from io import FileIO, TextIOWrapper
 from pathlib import Path
 from typing import Any, NoReturn
 
@@ -44,10 +46,26 @@ def as_installed(text: str) -> str:
     return re.sub(rf"\btools/({'|'.join(commands())})\b", r"soffitfennel-\1", text.replace("./bench", "soffitfennel"))
 
 
+def replace_closed_streams() -> None:
+    """Opens each standard stream that is closed, as ./bench does: input and output to what fails, messages to nowhere.
+    So no file that the tool or its programs open later takes the stream's number, and a lost output has its status."""
+    for number in range(3):
+        try:
+            os.fstat(number)
+        except OSError:
+            # (the least number that is free is this one)
+            os.set_inheritable(os.open(os.devnull, os.O_RDONLY if number == 1 else os.O_WRONLY), True)
+    sys.stdin = sys.stdin or open(0, encoding="utf-8", closefd=False)
+    # (without a buffer, of which a rest would fail once more at the end)
+    sys.stdout = sys.stdout or TextIOWrapper(FileIO(1, "w", closefd=False), encoding="utf-8", write_through=True)
+    sys.stderr = sys.stderr or open(2, "w", encoding="utf-8", closefd=False)
+
+
 class Parser(ArgumentParser):
     """A command line of which a fault is told in one line; the usage comes with --help."""
 
     def __init__(self, *words: Any, **named: Any) -> None:
+        replace_closed_streams()
         named["formatter_class"] = Folded
         super().__init__(*words, **named)
         self.prog = as_installed(self.prog)
