@@ -11,7 +11,7 @@ ghost use Rattle.simulated_flashes.specs.KeptFlashes.{kept_flash_state};
 
 use crate::image_words::{WORD_BYTES, WordsFault, words_in};
 use crate::kept_file::{CardFlash, KeptFile, Stamp};
-use crate::opening::{CardFault, lock, new_file, size_and_stamp};
+use crate::opening::{CardFault, fill_streams, lock, new_file, size_and_stamp};
 use crate::options::{Asked, CardOptions};
 use card_boards::{NoFlashCard, factory_flash, flash_of_words};
 use simulated_flashes::{FLASH_WORDS, GarblingFlash, KeptFlash};
@@ -83,6 +83,7 @@ fn open_card_flash(
     if options.pages.is_some() {
         return Err(FlashCardFault::Usage);
     }
+    let _streams = fill_streams(rt);
     let path = options.path.as_str();
     match OpenOptions::new().read(true).write(true).open(rt, path) {
         Ok(file) => read_flash(rt.alloc(), file, seed, options),

@@ -24,6 +24,9 @@ use thiserror::Error;
 /// The permission of a card's file, which has the PINs in plain bytes.
 const OWNER_ALONE: u32 = 0o600;
 
+/// What takes the number of a closed stream. It is open to read alone, so that what is printed fails.
+const NO_STREAM: &str = "/dev/null";
+
 /// Why a file is not taken as a card's. The file stays as it was.
 #[derive(Debug, Drop, Error)]
 pub enum CardFault {
@@ -87,12 +90,24 @@ fn open_card(rt: &HostRuntime, options: &CardOptions) -> Result<CardBoard, CardF
     ensures uncut { IfOk result (λ board. (facts_of board).pending ≡ None) }
     ensures refused { IfErr result (IsFileFault options.now) }
 {
+    let _streams = fill_streams(rt);
     let path = options.path.as_str();
     match OpenOptions::new().read(true).write(true).open(rt, path) {
         Ok(file) => read_card(rt.alloc(), file, options),
         Err(error) if error.kind() == ErrorKind::NotFound => make_card(rt, options),
         Err(error) => Err(CardFault::Open(error)),
     }
+}
+
+/// Opens files in place of the standard streams that are closed. As long as they are open, no other file takes the
+/// number of a stream: what the program prints would go into a card.
+pub(crate) fn fill_streams(
+    rt: &HostRuntime,
+) -> (io::Result<File>, io::Result<File>, io::Result<File>) {
+    let first = File::open(rt, NO_STREAM);
+    let second = File::open(rt, NO_STREAM);
+    let third = File::open(rt, NO_STREAM);
+    (first, second, third)
 }
 
 /// Returns the card in an open file.

@@ -241,6 +241,26 @@ def of_other_writers(checks: Checks, bench: Bench) -> None:
     second.unlink()
 
 
+def of_closed_streams(checks: Checks, bench: Bench) -> None:
+    """A program whose standard streams are closed prints nothing into its card, old or new."""
+    streams = {"input": 0, "output": 1, "error": 2}
+    for names in (["input"], ["output"], ["error"], ["output", "error"], [*streams]):
+        for what in ("old", "new"):
+            bench.image.unlink(missing_ok=True)
+            if what == "old":
+                bench.image.write_bytes(data_of(factory()))
+
+            def close(numbers: list[int] = [streams[it] for it in names]) -> None:
+                for number in numbers:
+                    os.close(number)
+
+            status, _, _ = bench.run("on\napdu 00A4000C022FE2\nbad\n", preexec_fn=close)
+            after = bench.image.read_bytes()
+            where = f"without standard {', '.join(names)}, an {what} card"
+            checks.compare(f"{where}: the file", True, after == data_of(factory()))
+            checks.compare(f"{where}: the status", True, status not in (0, NO_CARD) or "input" in names)
+
+
 def of_a_new_card(checks: Checks, bench: Bench, chance: random.Random, rounds: int) -> None:
     """A bench that is killed while it makes a card leaves a whole one, or none; the next run makes it."""
     made = 0
@@ -273,6 +293,7 @@ def check(checks: Checks, program: str, folder: Path) -> None:
     bench.image.write_bytes(data_of(factory()))
     of_another_user(checks, bench)
     of_two(checks, bench)
+    of_closed_streams(checks, bench)
     under_way(checks, bench, "the file is removed", bench.image.unlink)
     under_way(checks, bench, "the file is cut short", lambda: os.truncate(bench.image, 64 * 1000))
     of_other_writers(checks, bench)
