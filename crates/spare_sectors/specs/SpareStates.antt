@@ -1,5 +1,5 @@
 -- What contracts know of a device with spare sectors.
-use Rattle.std.specs.Prelude.{◌≡◌, ℕ, List, Option, Some, Result, IsOk, IsErrOf}
+use Rattle.std.specs.Prelude.{◌≡◌, ◌⊎◌, ◌%◌, ℕ, List, Option, Some, Result, IsOk, IsErrOf}
 use Rattle.nvm_board.specs.declared.board.DeviceErr.{DeviceErr}
 use Rattle.nvm_board.specs.declared.board.DeviceErr.TheVariants.{PowerLost, Fault}
 use Rattle.flash_device.specs.FlashCalls.{FlashState}
@@ -14,6 +14,10 @@ pub record SpareState : Type 0 where
   pub map : List ℕ
   pub begun : ℕ
   pub failed : Option SparePart
+
+-- A run of the map that is programmed: the number of an entry alone, or its mark alone.
+pub record IsEntryRun (at size : ℕ) : Type 0 where
+  pub is : ((at % 20 ≡ 16) × (size ≡ 1)) ⊎ ((at % 20 ≡ 18) × (size ≡ 2))
 
 -- A call of a part is that which failed last, if it returns a Fault. Any other leaves the one that was.
 pub record Blames {T : Type 0} (part : SparePart) (old new : SpareState) (result : Result T DeviceErr) : Type 0 where

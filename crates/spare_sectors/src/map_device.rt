@@ -5,7 +5,7 @@ ghost use Rattle.flash_device.specs.FlashCalls.{AreFilled, IsThere, Lights, Same
 ghost use Rattle.flash_device.specs.PageTables.{AreFree};
 ghost use Rattle.flash_device.specs.declared.flash.TheConstants.{BLANK};
 ghost use Rattle.spare_sectors.specs.SparePlaces.{all_sectors};
-ghost use Rattle.spare_sectors.specs.SpareStates.{Blames, SpareState};
+ghost use Rattle.spare_sectors.specs.SpareStates.{Blames, IsEntryRun, SpareState};
 ghost use Rattle.spare_sectors.specs.declared.map_device.SparePart.TheVariants.{Entry, Map};
 
 use flash_device::PageTable;
@@ -58,9 +58,11 @@ pub trait MapDevice {
         ensures blames { Blames Map (state self.old) (state self.new) result }
         ensures light { Lights (state self.old).flash (state self.new).flash result };
 
-    /// Programs blank words of the map. After an error each word of the run holds anything. No other word changes.
+    /// Programs the number or the mark of an entry of the map, which is blank. After an error each word of it holds
+    /// anything. No other word changes.
     fn program_map(&mut self, at: u32, words: &[u32]) -> Result<(), DeviceErr>
         requires lit { (state self.old).flash.dark ≡ false }
+        requires run { IsEntryRun at (length words.now) }
         requires blank { AreFilled (state self.old).map at (length words.now) BLANK }
         requires within { at + length words.now ≤ 20 * SPARES }
         ensures done { OnOk result (IsThere (state self.new).map at words.now) }

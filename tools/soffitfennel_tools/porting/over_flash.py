@@ -74,9 +74,9 @@ MAP_FUNCTIONS = """\
  * each time. */
 uint32_t device_read_map(struct device *device, uint32_t at, uint32_t *word);
 
-/* Programs words of the map from an address on. All of them are blank. DEVICE_DONE: each was read back, and stays
- * without power. Else they may hold anything. No other word changes. Word 16 of an entry of 20 is programmed first, and
- * words 18 and 19 later: they share no program unit. */
+/* Programs the number of an entry of the map, word 16 of its 20, or later its mark, words 18 and 19: blank words, and
+ * no other ones. DEVICE_DONE: each was read back, and stays without power. Else they may hold anything. No other word
+ * changes. Number and mark share no program unit. */
 uint32_t device_program_map(struct device *device, uint32_t at, const uint32_t *words, uint64_t count);
 
 /* Waits for a message,"""
@@ -127,7 +127,7 @@ SPARE_UNITS = Layer(BOTH, Path(__file__).with_name("spare_unit_files"), 19, SPAR
     "/* Programs whole units of FLASH_UNIT_WORDS, all below FLASH_WORDS + FLASH_MAP_WORDS. All are blank, and each is "
     "programmed\n * at most once between two erases. DEVICE_DONE: each was read back, and stays without power. Else",
     "/* Waits for a message,": MAP_FUNCTIONS.replace("below FLASH_MAP_WORDS", "below 20 * FLASH_SPARES").replace(
-        "they share no program unit.", "each has units of its own, and\n * reads blank only if all of these do."),
+        "share no program unit.", "have units of their own, and read blank only if all of these do."),
 })
 # the layer of a flash that has units or not, and spare sectors or not
 LAYERS: dict[tuple[bool, bool], Layer | None] = {

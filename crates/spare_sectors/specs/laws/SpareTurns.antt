@@ -1,5 +1,5 @@
 -- What an entry changes of the map: at most the sector that it names.
-use Rattle.std.specs.Prelude.{◌≡◌, ◌≢◌, ◌⊎◌, ◌<◌, ◌≤◌, ◌+◌, ◌*◌, ◌/◌, ℕ, suc, Bool, true, false, List}
+use Rattle.std.specs.Prelude.{◌≡◌, ◌≢◌, ◌⊎◌, ◌<◌, ◌≤◌, ◌+◌, ◌*◌, ◌/◌, ◌%◌, ℕ, suc, Bool, true, false, List}
 use Rattle.std.specs.Prelude.{◌&&◌, max, nat_eq, slice_index}
 use Rattle.std.proofs.Common.{refl, sym, ◌∙◌, ap₂, inl, inr, subst, ⊎_elim, arith, true≢false}
 use Rattle.std.proofs.lemmas.Bool.{cases_lt, eq-eqb, ne_eqb}
@@ -12,6 +12,16 @@ use Rattle.flash_device.specs.laws.Marks.{blank_part, blank_same, blank_slot, el
 use Rattle.flash_device.specs.laws.Marks.{mark_same}
 use Rattle.flash_device.specs.laws.Putting.{find_kept, holds_none}
 use Rattle.spare_sectors.specs.SpareMaps.{MovesOnly}
+use Rattle.spare_sectors.specs.SpareStates.{IsEntryRun}
+
+-- the number of an entry, and its mark
+pub number_entry : (entry at : ℕ) → at ≡ slot_of 0 entry → IsEntryRun (at + 16) 1
+number_entry entry at is =
+    let number : (at + 16) % 20 ≡ 16 = omega (arith, is) in record { is = inl (number, refl) }
+
+pub mark_entry : (entry at : ℕ) → at ≡ slot_of 0 entry → IsEntryRun (at + 18) 2
+mark_entry entry at is =
+    let mark : (at + 18) % 20 ≡ 18 = omega (arith, is) in record { is = inr (mark, refl) }
 
 module _ (spares entry sector : ℕ) (m after : List ℕ) (below : entry < spares) (are : AreFree m 0 entry spares)
     (elsewhere : SameElsewhere m (slot_of 0 entry) 20 after) where

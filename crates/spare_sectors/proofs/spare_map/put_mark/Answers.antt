@@ -1,7 +1,12 @@
 use Rattle.std.proofs.Common.{◌≡◌, ◌+◌, ℕ, true, slice_index, ap, subst, ◌∙◌, arith}
 use Rattle.flash_device.specs.FlashLogs.{is_marked}
 use Rattle.flash_device.specs.laws.Marks.{mark_words}
+use Rattle.spare_sectors.specs.laws.SpareTurns.{mark_entry}
 use Rattle.spare_sectors.proofs.spare_map.put_mark.Goals as goal
+
+pub program_map-requires-clause-run : goal.program_map-requires-clause-run
+program_map-requires-clause-run g c =
+    mark_entry c.args.entry c.entry_at-at.result c.entry_at-at.ensures.is
 
 pub returns-clause-marked : goal.returns-clause-marked
 returns-clause-marked g c =
