@@ -69,6 +69,11 @@ pub record IsFrameRun (at size : ℕ) : Type 0 where
   pub some : 0 < size
   pub fits : at % FRAME_WORDS + size ≤ FRAME_WORDS
 
+-- The units of a record, or those of a mark: all of them, and no word more.
+pub record IsPartRun (unit at size : ℕ) : Type 0 where
+  pub is : ((at % FRAME_WORDS ≡ 0) × (size ≡ span_of unit 18))
+      ⊎ ((at % FRAME_WORDS ≡ MARK_PLACE) × (size ≡ span_of unit 2))
+
 -- The sizes of a unit.
 pub record IsUnit (unit : ℕ) : Type 0 where
   pub is : ((unit ≡ 1) ⊎ (unit ≡ 2)) ⊎ ((unit ≡ 4) ⊎ (unit ≡ 8))

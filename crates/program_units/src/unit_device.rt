@@ -7,7 +7,7 @@ ghost use Rattle.flash_device.specs.FlashBlocks.{steps_of};
 ghost use Rattle.flash_device.specs.FlashCalls.{AreFilled, IsThere, Lights, SameElsewhere};
 ghost use Rattle.flash_device.specs.declared.flash.TheConstants.{BLANK};
 ghost use Rattle.flash_device.specs.declared.layout.TheConstants.{SPARES, STEP_PAGES};
-ghost use Rattle.program_units.specs.UnitFrames.{AreUnits, IsFrameRun, IsUnit, device_size, frame_count};
+ghost use Rattle.program_units.specs.UnitFrames.{AreUnits, IsFrameRun, IsPartRun, IsUnit, device_size, frame_count};
 ghost use Rattle.program_units.specs.UnitStates.{CountsErase, UnitState};
 ghost use Rattle.program_units.specs.declared.unit_frames.TheConstants.{FRAME_WORDS};
 
@@ -64,15 +64,18 @@ pub trait UnitDevice {
         ensures kept { (state self.new).flash.kept ≡ (state self.old).flash.kept }
         ensures light { Lights (state self.old).flash (state self.new).flash result };
 
-    /// Programs whole units of a frame, which are blank and were not programmed since their erase. After an error each
-    /// word of them holds anything. No other word changes.
+    /// Programs the units of a record or of a mark, with words that are not all blank. The units are blank, and no
+    /// program of them returned Ok since their erase. After an error each word of them holds anything. No other word
+    /// changes.
     fn program(&mut self, at: u32, words: &[u32]) -> Result<(), DeviceErr>
         requires lit { (state self.old).flash.dark ≡ false }
         requires run { IsFrameRun at (length words.now) }
         requires units { AreUnits UNIT at (length words.now) }
+        requires part { IsPartRun UNIT at (length words.now) }
         requires within { at + length words.now ≤ device_size SLOTS }
         requires blank { AreFilled (state self.old).flash.words at (length words.now) BLANK }
         requires fresh { AreFilled (state self.old).programs at (length words.now) 0 }
+        requires some { AreFilled words.now 0 (length words.now) BLANK → ⊥ }
         ensures done { OnOk result (IsThere (state self.new).flash.words at words.now) }
         ensures elsewhere { SameElsewhere (state self.old).flash.words at (length words.now)
             (state self.new).flash.words }

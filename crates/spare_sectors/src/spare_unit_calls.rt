@@ -8,7 +8,7 @@ ghost use Rattle.spare_sectors.specs.SpareFrames.{sector_frame, unit_list, witho
 ghost use Rattle.spare_sectors.specs.SpareMaps.{HasSpares, TakesSpare, TriesSpare};
 ghost use Rattle.spare_sectors.specs.SparePlaces.{lies_in};
 ghost use Rattle.spare_sectors.specs.SpareStates.{Blames};
-ghost use Rattle.program_units.specs.UnitFrames.{AreUnits, IsFrameRun, device_size};
+ghost use Rattle.program_units.specs.UnitFrames.{AreUnits, IsFrameRun, IsPartRun, device_size};
 ghost use Rattle.program_units.specs.UnitStates.{CountsErase};
 ghost use Rattle.spare_sectors.specs.declared.map_device.SparePart.TheVariants.{Sector};
 ghost use Rattle.program_units.specs.declared.unit_frames.TheConstants.{FRAME_WORDS};
@@ -53,6 +53,8 @@ fn program_frame<D: SpareUnitDevice>(
     requires lit { (D.state device.old).flash.dark ≡ false }
     requires run { IsFrameRun at (length words.now) }
     requires units { AreUnits D.UNIT at (length words.now) }
+    requires part { IsPartRun D.UNIT at (length words.now) }
+    requires some { AreFilled words.now 0 (length words.now) BLANK → ⊥ }
     requires within { at + length words.now ≤ device_size D.SLOTS }
     requires blank { AreFilled (unit_list D.SLOTS D.SECTORS D.SECTOR_FRAMES D.SPARES (D.state device.old).flash.words
         (D.state device.old).map)
@@ -222,6 +224,8 @@ pub fn program_unit<D: SpareUnitDevice>(
     requires lit { (D.state device.old).flash.dark ≡ false }
     requires run { IsFrameRun at (length words.now) }
     requires units { AreUnits D.UNIT at (length words.now) }
+    requires part { IsPartRun D.UNIT at (length words.now) }
+    requires some { AreFilled words.now 0 (length words.now) BLANK → ⊥ }
     requires within { at + length words.now ≤ device_size D.SLOTS }
     requires blank { AreFilled (unit_list D.SLOTS D.SECTORS D.SECTOR_FRAMES D.SPARES (D.state device.old).flash.words
         (D.state device.old).map)

@@ -9,7 +9,7 @@ ghost use Rattle.flash_device.specs.declared.layout.TheConstants.{SPARES as PASS
 ghost use Rattle.spare_sectors.specs.SpareFrames.{TakesFrames, own_units};
 ghost use Rattle.spare_sectors.specs.SparePlaces.{all_sectors};
 ghost use Rattle.spare_sectors.specs.SpareStates.{Blames};
-ghost use Rattle.program_units.specs.UnitFrames.{AreUnits, IsFrameRun, IsUnit};
+ghost use Rattle.program_units.specs.UnitFrames.{AreUnits, IsFrameRun, IsPartRun, IsUnit};
 ghost use Rattle.program_units.specs.UnitStates.{CountsErase};
 ghost use Rattle.spare_sectors.specs.declared.map_device.SparePart.TheVariants.{Sector, Words};
 ghost use Rattle.program_units.specs.declared.unit_frames.TheConstants.{FRAME_WORDS};
@@ -59,15 +59,18 @@ pub trait SpareUnitDevice: MapDevice {
         ensures blames { Blames Words (Self.state self.old) (Self.state self.new) result }
         ensures light { Lights (Self.state self.old).flash (Self.state self.new).flash result };
 
-    /// Programs whole units of a frame, which are blank and were not programmed since their erase. After an error each
-    /// word of them holds anything. No other word changes.
+    /// Programs the units of a record or of a mark, with words that are not all blank. The units are blank, and no
+    /// program of them returned Ok since their erase. After an error each word of them holds anything. No other word
+    /// changes.
     fn program(&mut self, at: u32, words: &[u32]) -> Result<(), DeviceErr>
         requires lit { (Self.state self.old).flash.dark ≡ false }
         requires run { IsFrameRun at (length words.now) }
         requires units { AreUnits UNIT at (length words.now) }
+        requires part { IsPartRun UNIT at (length words.now) }
         requires within { at + length words.now ≤ FRAME_WORDS * SECTOR_FRAMES * all_sectors Self.SECTORS Self.SPARES }
         requires blank { AreFilled (Self.state self.old).flash.words at (length words.now) BLANK }
         requires fresh { AreFilled (Self.state self.old).programs at (length words.now) 0 }
+        requires some { AreFilled words.now 0 (length words.now) BLANK → ⊥ }
         ensures done { OnOk result (IsThere (Self.state self.new).flash.words at words.now) }
         ensures elsewhere { SameElsewhere (Self.state self.old).flash.words at (length words.now)
             (Self.state self.new).flash.words }

@@ -4,7 +4,7 @@ ghost use Rattle.std.specs.Prelude.{slice_index, IfOk, OnErr, OnOk};
 ghost use Rattle.flash_device.specs.FlashCalls.{AreFilled, IsThere, Lights, SameElsewhere};
 ghost use Rattle.flash_device.specs.declared.flash.TheConstants.{BLANK};
 ghost use Rattle.spare_sectors.specs.SpareMaps.{HasSpares, TakesNone, TakesSpare};
-ghost use Rattle.program_units.specs.UnitFrames.{AreUnits, IsFrameRun, device_size};
+ghost use Rattle.program_units.specs.UnitFrames.{AreUnits, IsFrameRun, IsPartRun, device_size};
 ghost use Rattle.program_units.specs.UnitStates.{CountsErase};
 ghost use Rattle.program_units.specs.UnitWords.{HasFreshUnits};
 ghost use Rattle.program_units.specs.declared.unit_frames.TheConstants.{FRAME_WORDS};
@@ -121,6 +121,8 @@ impl<D: SpareUnitDevice> UnitDevice for SpareUnits<D> {
         requires lit { (⟦<SpareUnits<D> as UnitDevice>⟧.state self.old).flash.dark ≡ false }
         requires run { IsFrameRun at (length words.now) }
         requires units { AreUnits D.UNIT at (length words.now) }
+        requires part { IsPartRun D.UNIT at (length words.now) }
+        requires some { AreFilled words.now 0 (length words.now) BLANK → ⊥ }
         requires within { at + length words.now ≤ device_size D.SLOTS }
         requires blank { AreFilled (⟦<SpareUnits<D> as UnitDevice>⟧.state self.old).flash.words at (length words.now)
             BLANK }

@@ -1,5 +1,5 @@
 -- Laws of programs and erases of a device with program units, as a log sees them.
-use Rattle.std.specs.Prelude.{◌≡◌, ◌≢◌, ◌⊎◌, ◌<◌, ◌≤◌, ◌+◌, ◌-◌, ◌*◌, ℕ, List, length, max, slice_index, take}
+use Rattle.std.specs.Prelude.{◌≡◌, ◌≢◌, ◌⊎◌, ◌<◌, ◌≤◌, ◌+◌, ◌-◌, ◌*◌, ◌%◌, ℕ, List, length, max, slice_index, take}
 use Rattle.std.proofs.Common.{sym, ◌∙◌, ap, ap₂, inl, inr, subst, ⊎_elim, arith}
 use Rattle.std.proofs.lemmas.Bool.{cases_eq, cases_lt}
 use Rattle.std.proofs.lemmas.List.{get_or-take}
@@ -7,8 +7,8 @@ use Rattle.flash_device.specs.declared.flash.TheConstants.{BLANK}
 use Rattle.flash_device.specs.FlashBlocks.{flash_size}
 use Rattle.flash_device.specs.FlashCalls.{AreFilled, IsThere, SameElsewhere}
 use Rattle.flash_device.specs.ProgrammedRuns.{IsProgramRun}
-use Rattle.program_units.specs.UnitFrames.{AreUnits, IsFramePart, IsFrameRun, IsUnit, device_size, frame_of}
-use Rattle.program_units.specs.UnitFrames.{frame_start, place_in, rank_of, span_of}
+use Rattle.program_units.specs.UnitFrames.{AreUnits, IsFramePart, IsFrameRun, IsPartRun, IsUnit, device_size}
+use Rattle.program_units.specs.UnitFrames.{frame_of, frame_start, place_in, rank_of, span_of}
 use Rattle.program_units.specs.UnitStates.{CountsErase, UnitState}
 use Rattle.program_units.specs.UnitWords.{HasFreshUnits, LooksBlank, frame_word, rest_at, unit_words}
 use Rattle.program_units.specs.laws.BlankRuns.{frame_word_there}
@@ -414,6 +414,20 @@ taken_run unit m words whole place many is size most fits there of_words of_rest
       there.each k inside ∙ get_or-take many whole k 0 below ∙ of_rest k from few;
 }
 
+-- what is programmed isn't blank, if the run isn't
+pub taken_some : (words whole : List ℕ) (many : ℕ) → length (take many whole) ≡ many → length words ≤ many
+    → ((k : ℕ) → k < length words → slice_index whole k ≡ slice_index words k)
+    → (AreFilled words 0 (length words) BLANK → ⊥)
+    → AreFilled (take many whole) 0 (length (take many whole)) BLANK → ⊥
+taken_some words whole many size fits of_words some all = some (record {
+  each = λ k lt.
+      let below : k < many = omega (arith, lt, fits) in
+      let inside : k < length (take many whole) = omega (arith, below, size) in
+      let z : 0 + k ≡ k = omega arith in
+      ap (λ (i : ℕ). slice_index words i) z ∙ sym (of_words k lt) ∙ sym (get_or-take many whole k 0 below)
+      ∙ ap (λ (i : ℕ). slice_index (take many whole) i) (sym z) ∙ all.each k inside;
+})
+
 -- A run of a log, with its place on the device, and how many words it takes there.
 pub record IsPlacedRun (unit slots at size place many : ℕ) : Type 0 where
   pub frame : ℕ
@@ -454,6 +468,28 @@ module _ (unit slots at size place many : ℕ) (is : IsPlacedRun unit slots at s
       let taken = is.many_is in record {
         some = omega (arith, few, some, taken);
         fits = omega (arith, from, last, few, some, there, taken);
+      }
+
+  pub run_fits : size ≤ many
+  run_fits =
+      let few = (part_span unit is.frame is.rank size is.most is.run.part).few in
+      let taken = is.many_is in omega (arith, few, taken)
+
+  many_of : (n : ℕ) → size ≡ n → many ≡ span_of unit n
+  many_of n e = is.many_is ∙ ap (λ (k : ℕ). span_of unit k) e
+
+  pub run_is_part : IsPartRun unit place many
+  run_is_part =
+      let there = is.place_is in
+      record {
+        is = ⊎_elim
+            (λ (x : (is.rank ≡ 0) × (size ≡ 18)). let r = x.0 in
+            let e = place_record is.frame is.rank (omega (arith, r)) in
+            let begins : place % 32 ≡ 0 = omega (arith, e, r, there) in inl (begins, many_of 18 x.1))
+            (λ (x : (is.rank ≡ 18) × (size ≡ 2)). let r = x.0 in
+            let e = place_mark is.frame is.rank (omega (arith, r)) in
+            let begins : place % 32 ≡ 24 = omega (arith, e, r, there) in inr (begins, many_of 2 x.1))
+            is.run.part.is;
       }
 
   pub run_within : place + many ≤ device_size slots

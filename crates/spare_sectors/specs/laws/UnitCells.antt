@@ -1,7 +1,7 @@
 -- Laws of the calls of a log with units on a device with spare sectors.
 use Rattle.std.specs.Prelude.{◌≡◌, ◌≢◌, ◌⊎◌, ◌<◌, ◌≤◌, ◌+◌, ◌-◌, ◌*◌, ◌/◌, ◌%◌, ◌^◌, ℕ, List, Ok}
 use Rattle.std.specs.Prelude.{Err, is_ok, length, slice_index, Result}
-use Rattle.std.proofs.Common.{sym, ◌∙◌, ap, ap₂, subst, ⊎_elim, arith, true≢false}
+use Rattle.std.proofs.Common.{sym, ◌∙◌, ap, ap₂, inl, inr, subst, ⊎_elim, arith, true≢false}
 use Rattle.std.proofs.Math.Nat.{mul_assoc}
 use Rattle.std.proofs.lemmas.Bool.{cases_eq}
 use Rattle.nvm_board.specs.declared.board.DeviceErr.{DeviceErr}
@@ -13,7 +13,7 @@ use Rattle.spare_sectors.specs.SpareFrames.{without_spare_units, word_sector, wo
 use Rattle.spare_sectors.specs.SpareMaps.{MovesOnly}
 use Rattle.spare_sectors.specs.SparePlaces.{all_sectors, lies_by, lies_in}
 use Rattle.spare_sectors.specs.SpareStates.{SpareState}
-use Rattle.program_units.specs.UnitFrames.{AreUnits, IsFrameRun, IsUnit, device_size}
+use Rattle.program_units.specs.UnitFrames.{AreUnits, IsFrameRun, IsPartRun, IsUnit, device_size, span_of}
 use Rattle.spare_sectors.specs.laws.FrameParts.{frame_run, frames_lie}
 use Rattle.spare_sectors.specs.laws.MovedWords.{cell_within, erased_elsewhere, erased_filled, run_blank}
 use Rattle.spare_sectors.specs.laws.MovedWords.{run_elsewhere, run_filled, run_there, run_within}
@@ -72,6 +72,16 @@ module _ (slots sectors each spares : ℕ) (takes : TakesFrames slots sectors ea
 
     pub units_run : IsFrameRun cell n
     units_run = let few = run.fits in record { some = run.some; fits = omega (arith, few, place, low) }
+
+    pub units_part : (unit : ℕ) → IsPartRun unit at n → IsPartRun unit cell n
+    units_part unit part = record {
+      is = ⊎_elim
+          (λ (x : (at % 32 ≡ 0) × (n ≡ span_of unit 18)). let e = x.0 in
+          let begins : cell % 32 ≡ 0 = omega (arith, e, place, low) in inl (begins, x.1))
+          (λ (x : (at % 32 ≡ 24) × (n ≡ span_of unit 2)). let e = x.0 in
+          let begins : cell % 32 ≡ 24 = omega (arith, e, place, low) in inr (begins, x.1))
+          part.is;
+    }
 
     pub units_there : (unit : ℕ) → IsUnit unit → AreUnits unit at n → AreUnits unit cell n
     units_there unit fit are = record { begins = begins; ends = are.ends }

@@ -3,10 +3,10 @@ use Rattle.std.proofs.Common.{◌≡◌, ◌<◌, ◌≤◌, ◌+◌, ◌-◌, �
 use Rattle.std.proofs.lemmas.List.{length-take-le}
 use Rattle.flash_device.specs.declared.flash.TheConstants.{BLANK}
 use Rattle.flash_device.specs.FlashCalls.{AreFilled, SameElsewhere}
-use Rattle.program_units.specs.UnitFrames.{AreUnits, IsFrameRun, device_size}
+use Rattle.program_units.specs.UnitFrames.{AreUnits, IsFrameRun, IsPartRun, device_size}
 use Rattle.program_units.specs.laws.UnitSteps.{done_is_fresh, failed_is_fresh, placed_run, run_is_blank}
 use Rattle.program_units.specs.laws.UnitSteps.{run_in_frame, run_is_fresh, run_is_there, run_keeps_others}
-use Rattle.program_units.specs.laws.UnitSteps.{run_units}
+use Rattle.program_units.specs.laws.UnitSteps.{run_fits, run_is_part, run_units, taken_some}
 use Rattle.program_units.specs.laws.UnitSteps.{run_within}
 use Rattle.program_units.proofs.unit_calls.program_run.Goals as goal
 
@@ -57,6 +57,29 @@ program-requires-clause-units g c =
     c.place_at-place.ensures.is is in
     subst (λ (k : ℕ). AreUnits unit place k) (sym taken)
     (run_units unit slots at (length words) place many run g.met.D.UnitDevice.unit_fits)
+
+pub program-requires-clause-part : goal.program-requires-clause-part
+program-requires-clause-part g c =
+    let unit = g.D.UnitDevice.UNIT in
+    let slots = g.D.UnitDevice.SLOTS in
+    let at = c.args.at in
+    let place = c.place_at-place.result in
+    let words = c.args.words.now in
+    let whole = c.filled_up-whole.result in
+    let many = length words - 2 + c.pair_words.result in
+    let most : many ≤ length whole =
+    let few = c.requires.size in
+    let pair = c.pair_words.ensures.few in
+    let all = c.filled_up-whole.ensures.size in
+    omega (arith, few.0, few.1, pair, all) in
+    let taken : length (take many whole) ≡ many = length-take-le many whole most in
+    let is : many ≡ length words - 2 + max 2 unit = omega (arith, c.pair_words.ensures.is) in
+    let some : 0 < length words = omega (arith, c.requires.size.0) in
+    let run = placed_run unit slots at (length words) c.spot_of.result.frame c.spot_of.result.rank place many
+    g.met.D.UnitDevice.unit_fits c.requires.run some c.spot_of.ensures.frame c.spot_of.ensures.rank
+    c.place_at-place.ensures.is is in
+    subst (λ (k : ℕ). IsPartRun unit place k) (sym taken)
+    (run_is_part unit slots at (length words) place many run)
 
 pub program-requires-clause-within : goal.program-requires-clause-within
 program-requires-clause-within g c =
@@ -129,6 +152,29 @@ program-requires-clause-fresh g c =
     c.place_at-place.ensures.is is in
     subst (λ (k : ℕ). AreFilled old.programs place k 0) (sym taken)
     (run_is_fresh unit slots at (length words) place many run old c.requires.within c.requires.fresh c.requires.blank)
+
+pub program-requires-clause-some : goal.program-requires-clause-some
+program-requires-clause-some g c =
+    let unit = g.D.UnitDevice.UNIT in
+    let slots = g.D.UnitDevice.SLOTS in
+    let at = c.args.at in
+    let place = c.place_at-place.result in
+    let words = c.args.words.now in
+    let whole = c.filled_up-whole.result in
+    let many = length words - 2 + c.pair_words.result in
+    let most : many ≤ length whole =
+    let few = c.requires.size in
+    let pair = c.pair_words.ensures.few in
+    let all = c.filled_up-whole.ensures.size in
+    omega (arith, few.0, few.1, pair, all) in
+    let taken : length (take many whole) ≡ many = length-take-le many whole most in
+    let is : many ≡ length words - 2 + max 2 unit = omega (arith, c.pair_words.ensures.is) in
+    let some : 0 < length words = omega (arith, c.requires.size.0) in
+    let run = placed_run unit slots at (length words) c.spot_of.result.frame c.spot_of.result.rank place many
+    g.met.D.UnitDevice.unit_fits c.requires.run some c.spot_of.ensures.frame c.spot_of.ensures.rank
+    c.place_at-place.ensures.is is in
+    taken_some words whole many taken (run_fits unit slots at (length words) place many run)
+    c.filled_up-whole.ensures.there c.requires.some
 
 pub returns-in_err-program-clause-elsewhere : goal.returns-in_err-program-clause-elsewhere
 returns-in_err-program-clause-elsewhere g c =

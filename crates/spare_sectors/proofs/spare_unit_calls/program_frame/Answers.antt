@@ -1,6 +1,6 @@
 use Rattle.std.proofs.Common.{length, refl}
 use Rattle.flash_device.specs.declared.flash.TheConstants.{BLANK}
-use Rattle.spare_sectors.specs.laws.UnitCells.{units_blank, units_elsewhere, units_filled, units_run}
+use Rattle.spare_sectors.specs.laws.UnitCells.{units_blank, units_elsewhere, units_filled, units_part, units_run}
 use Rattle.spare_sectors.specs.laws.UnitCells.{units_there, units_within, units_written}
 use Rattle.spare_sectors.proofs.spare_unit_calls.program_frame.Goals as goal
 
@@ -18,6 +18,14 @@ program-requires-clause-units g c =
     c.args.at (length c.args.words.now) c.cell_at-cell.result c.requires.within c.requires.run
     c.cell_at-cell.ensures.is
     _ g.met.D.SpareUnitDevice.unit_fits c.requires.units
+
+pub program-requires-clause-part : goal.program-requires-clause-part
+program-requires-clause-part g c =
+    units_part g.D.SpareUnitDevice.SLOTS g.D.MapDevice.SECTORS g.D.SpareUnitDevice.SECTOR_FRAMES
+    g.D.MapDevice.SPARES g.met.D.SpareUnitDevice.sectors_fit (g.D.MapDevice.state c.args.device.now).map
+    c.args.at (length c.args.words.now) c.cell_at-cell.result c.requires.within c.requires.run
+    c.cell_at-cell.ensures.is
+    _ c.requires.part
 
 pub program-requires-clause-within : goal.program-requires-clause-within
 program-requires-clause-within g c =
