@@ -14,9 +14,9 @@ ghost use Rattle.program_units.specs.declared.unit_frames.TheConstants.{FRAME_WO
 use flash_device::PageTable;
 use nvm_board::DeviceErr;
 
-/// A flash device that programs whole units, each at most once between two erases. Its words lie in frames of 32: one
-/// for each slot of area A, one for its close mark, the same for area B, and one for the witness. A sector is what
-/// `erase` erases, and has whole frames.
+/// A flash device that programs whole units, none again behind a program that returned Ok, until an erase. Its words
+/// lie in frames of 32: one for each slot of area A, one for its close mark, the same for area B, and one for the
+/// witness. A sector is what `erase` erases, and has whole frames.
 pub trait UnitDevice {
     /// The table of the pages in working memory. It has an entry for each page.
     type Table: PageTable;

@@ -5,9 +5,9 @@ use Rattle.nvm_board.specs.declared.board.DeviceErr.TheVariants.{PowerLost, Faul
 use Rattle.flash_device.specs.FlashCalls.{FlashState}
 use Rattle.spare_sectors.specs.declared.map_device.SparePart.{SparePart}
 
--- The flash that the device is, with the words of all its sectors; how often each word was programmed since an erase
--- of its sector was begun, if the device programs whole units; the words of the map; how many entries of the map were
--- begun, which is one more than the last one that a program was begun in; and which part failed last.
+-- The flash that the device is, with the words of all its sectors; for each word how many programs of its unit returned
+-- Ok since an erase of its sector was begun, if the device programs whole units; the words of the map; how many entries
+-- of the map were begun, which is one more than the last one that a program was begun in; and which part failed last.
 pub record SpareState : Type 0 where
   pub flash : FlashState
   pub programs : List ℕ

@@ -18,8 +18,8 @@ use crate::map_device::MapDevice;
 use flash_device::PageTable;
 use nvm_board::DeviceErr;
 
-/// A flash device that programs whole units, each at most once between two erases. Its sectors have whole frames of 32
-/// words, and one size: those of area A, those of area B, the witness, and spare ones.
+/// A flash device that programs whole units, none again behind a program that returned Ok, until an erase. Its sectors
+/// have whole frames of 32 words, and one size: those of area A, those of area B, the witness, and spare ones.
 pub trait SpareUnitDevice: MapDevice {
     /// The table of the pages in working memory. It has an entry for each page.
     type Table: PageTable;

@@ -48,15 +48,20 @@ class Layer:
         return OWN_ON_FLASH | {"device_flash": f"nvm_board flash_device {self.below}"}
 
 
+READS_WORDS = "/* Reads a word. The address is below FLASH_WORDS. A word that an interrupted call left reads the " \
+    "same each time. */"
+PROGRAMS_WORDS = "/* Programs words from an address on. All of them are blank. DEVICE_DONE: each was read back, and " \
+    "stays without power.\n * Else they may hold anything. No other word changes. */"
 # whole units: a slot takes 32 words, 24 of them for its record, and each block has a slot for its close mark
 UNITS = Layer("program_units", Path(__file__).with_name("unit_files"), 17, {}, {
     "FLASH_RECORD_WORDS = 18,": "FLASH_RECORD_WORDS = 24,",
     "FLASH_SLOT_WORDS = 20,": "FLASH_SLOT_WORDS = 32,",
     "FLASH_SLOT_WORDS * FLASH_SLOTS + 2,": "FLASH_SLOT_WORDS * (FLASH_SLOTS + 1),",
     "FLASH_WITNESS_WORDS = 2,": "FLASH_WITNESS_WORDS = FLASH_SLOT_WORDS,",
-    "/* Programs words from an address on. All of them are blank.":
-    "/* Programs whole units of FLASH_UNIT_WORDS. All are blank, and each is programmed at most once between two "
-    "erases.\n *",
+    PROGRAMS_WORDS:
+    "/* Programs whole units of FLASH_UNIT_WORDS. All are blank, and none is programmed again behind a program that "
+    "returned\n * DEVICE_DONE, until an erase. DEVICE_DONE: each was read back, and stays without power. Else they may "
+    "hold anything.\n * No other word changes. */",
 })
 BLOCK_LAYOUT = """\
 /* The flash has three blocks: area A, area B and the witness. Their words have the addresses from 0 on. A word is blank
@@ -80,10 +85,6 @@ uint32_t device_read_map(struct device *device, uint32_t at, uint32_t *word);
 uint32_t device_program_map(struct device *device, uint32_t at, const uint32_t *words, uint64_t count);
 
 /* Waits for a message,"""
-READS_WORDS = "/* Reads a word. The address is below FLASH_WORDS. A word that an interrupted call left reads the " \
-    "same each time. */"
-PROGRAMS_WORDS = "/* Programs words from an address on. All of them are blank. DEVICE_DONE: each was read back, and " \
-    "stays without power.\n * Else"
 SPARES = Layer("spare_sectors", Path(__file__).with_name("spare_files"), 19, {
     "the three functions of the flash,": "the five functions of the flash,",
     "the contracts of the three functions,": "the contracts of the five functions,",
@@ -105,7 +106,8 @@ SPARES = Layer("spare_sectors", Path(__file__).with_name("spare_files"), 19, {
     "A word\n * that an interrupted call left reads the same each time. */",
     PROGRAMS_WORDS:
     "/* Programs words from an address on, all below FLASH_WORDS + FLASH_MAP_WORDS. All of them are blank. "
-    "DEVICE_DONE: each\n * was read back, and stays without power. Else",
+    "DEVICE_DONE: each\n * was read back, and stays without power. Else they may hold anything. No other word "
+    "changes. */",
     "/* Erases a sector, at most 2 * FLASH_SECTORS. DEVICE_DONE: all its words were read back as blank. Else they may "
     "hold\n * anything.":
     "/* Erases a sector, at most 2 * FLASH_SECTORS + FLASH_SPARES + 1: this one is the map's, for spare_map.c. "
@@ -124,8 +126,9 @@ SPARE_UNITS = Layer(BOTH, Path(__file__).with_name("spare_unit_files"), 19, SPAR
     BLOCK_LAYOUT: SECTOR_LAYOUT.replace("The map has FLASH_MAP_WORDS\n * with addresses of their own, 20",
                                         "The map has words\n * with addresses of their own, 20"),
     PROGRAMS_WORDS:
-    "/* Programs whole units of FLASH_UNIT_WORDS, all below FLASH_WORDS + FLASH_MAP_WORDS. All are blank, and each is "
-    "programmed\n * at most once between two erases. DEVICE_DONE: each was read back, and stays without power. Else",
+    "/* Programs whole units of FLASH_UNIT_WORDS, all below FLASH_WORDS + FLASH_MAP_WORDS. All are blank, and none is\n"
+    " * programmed again behind a program that returned DEVICE_DONE, until an erase. DEVICE_DONE: each was read back, "
+    "and\n * stays without power. Else they may hold anything. No other word changes. */",
     "/* Waits for a message,": MAP_FUNCTIONS.replace("below FLASH_MAP_WORDS", "below 20 * FLASH_SPARES").replace(
         "share no program unit.", "have units of their own, and read blank only if all of these do."),
 })
