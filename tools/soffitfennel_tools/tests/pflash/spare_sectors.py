@@ -97,18 +97,18 @@ def room_of_spares(room: Room) -> Room:
 def compare_port(room: Room) -> None:
     """tools/port writes such a port, with the numbers that were asked for."""
     port = room.folder / "spare-port"
-    ran = tool(PORT, "--flash", "--spares", 5, "--pages", 1536, "--slots", 2048, "--sector-words", 64, port)
+    ran = tool(PORT, "--flash", "--spares", 5, "--pages", 1536, "--slots", 2048, "--sector-words", 104, port)
     room.checks.same((ran.returncode, ran.stdout), (0, f"{port}\n"), "tools/port --spares")
-    for size, wanted in ((SPARE_SECTORS, ["5"]), (PAGES, ["1536"]), (SLOTS, ["2048"]), (SECTOR_WORDS, ["64"])):
+    for size, wanted in ((SPARE_SECTORS, ["5"]), (PAGES, ["1536"]), (SLOTS, ["2048"]), (SECTOR_WORDS, ["104"])):
         for place, number in size.places.items():
             found = number.findall((port / place).read_text(encoding="utf-8"))
             room.checks.same(found, wanted, f"the {size.what} in {place}")
     room.checks.same([str(it) for it in port.rglob("*.in")], [], "no template is left")
     room.checks.check((port / "device/spare_map.c").is_file(), "the port has the map's functions")
     shown = by_host([PROGRAMS / SHOWN], room.folder / "shown", f"-I{port / 'device'}")
-    # (a sector has three slots: the 2,048 slots of an area and its mark take 683)
-    words = 64 * (2 * 683 + 1 + 5)
-    room.checks.same(shown, f"683 {words} 100 {words + 100}\n", "the sectors, words and map of the header")
+    # (a sector has five slots: the 2,048 slots of an area and its mark take 410)
+    words = 104 * (2 * 410 + 1 + 5)
+    room.checks.same(shown, f"410 {words} 100 {words + 100}\n", "the sectors, words and map of the header")
 
 
 def compare_factory(room: Room) -> None:
@@ -123,14 +123,21 @@ def compare_factory(room: Room) -> None:
 
 
 def compare_driver(room: Room) -> None:
-    """The driver of examples/flash refuses a map that its one sector hasn't room for."""
-    port, why = room.folder / "spare-port", "the map of spare sectors takes one sector"
+    """The driver of examples/flash, and the map's functions, refuse a map that its one sector hasn't room for."""
+    port = room.folder / "spare-port"
+    refused = {"pflash.c": "the map of spare sectors takes one sector"}
+    refused["spare_map.c"] = "the map takes more than its sector"
     for words in (64, 99, 100):
         set_size(port, SECTOR_WORDS, words)
-        built: list[str | Path] = ["cc", *WARNINGS, "-fsyntax-only", port / "device/pflash.c"]
-        ran = subprocess.run(built, capture_output=True, text=True, check=False)
-        found, wanted = (ran.returncode == 0, why in ran.stderr), (words >= 100, words < 100)
-        room.checks.check(found == wanted, f"the driver over sectors of {words} words", ran.stderr)
+        for name, why in refused.items():
+            compare_syntax(room, port / "device" / name, why if words < 100 else "", f"{name} over {words} words")
+
+
+def compare_syntax(room: Room, source: Path, why: str, what: str) -> None:
+    """A source of C is refused for a reason, or taken where none is given."""
+    built: list[str | Path] = ["cc", *WARNINGS, "-fsyntax-only", source]
+    ran = subprocess.run(built, capture_output=True, text=True, check=False)
+    room.checks.check((ran.returncode == 0, why in ran.stderr) == (not why, True), what, ran.stderr)
 
 
 def compare_most(room: Room) -> None:

@@ -22,17 +22,17 @@ SHOWN = "spare_sizes.c"
 def compare_port(room: Room) -> None:
     """tools/port writes such a port, with the numbers that were asked for."""
     port = room.folder / "spare-unit-port"
-    ran = tool(PORT, "--flash", "--unit", 32, "--spares", 5, "--slots", 2048, "--sector-words", 96, port)
+    ran = tool(PORT, "--flash", "--unit", 32, "--spares", 5, "--slots", 2048, "--sector-words", 160, port)
     room.checks.same((ran.returncode, ran.stdout), (0, f"{port}\n"), "tools/port --unit --spares")
-    for size, wanted in ((UNIT, ["8"]), (SPARE_SECTORS, ["5"]), (SECTOR_WORDS, ["96"])):
+    for size, wanted in ((UNIT, ["8"]), (SPARE_SECTORS, ["5"]), (SECTOR_WORDS, ["160"])):
         for place, number in size.places.items():
             found = number.findall((port / place).read_text(encoding="utf-8"))
             room.checks.same(found, wanted, f"the {size.what} in {place}")
     room.checks.same([str(it) for it in port.rglob("*.in")], [], "no template is left")
     shown = by_host([PROGRAMS / SHOWN], room.folder / "shown-units", f"-I{port / 'device'}", *WARNINGS)
-    # (a sector has three slots: the 2,048 slots of an area and its close mark take 683; an entry of the map takes one)
-    words = 96 * (2 * 683 + 1 + 5)
-    room.checks.same(shown, f"683 {words} 160 {words + 160}\n", "the sectors, words and map of the header")
+    # (a sector has five slots: the 2,048 slots of an area and its close mark take 410; an entry of the map takes one)
+    words = 160 * (2 * 410 + 1 + 5)
+    room.checks.same(shown, f"410 {words} 160 {words + 160}\n", "the sectors, words and map of the header")
 
 
 def compare_mistakes(room: Room) -> None:

@@ -5,6 +5,8 @@
 
 enum { MAP_SECTOR = 2 * FLASH_SECTORS + FLASH_SPARES + 1 };
 
+_Static_assert(FLASH_MAP_WORDS <= FLASH_SECTOR_WORDS, "the map takes more than its sector");
+
 uint32_t device_read_map(struct device *device, uint32_t at, uint32_t *word)
 {
     return device_read(device, FLASH_WORDS + at, word);

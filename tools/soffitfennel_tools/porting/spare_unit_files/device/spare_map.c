@@ -13,6 +13,8 @@ enum {
     PAIR_WORDS = FLASH_UNIT_WORDS > 2 ? FLASH_UNIT_WORDS : 2
 };
 
+_Static_assert(FLASH_MAP_WORDS <= FLASH_SECTOR_WORDS, "the map takes more than its sector");
+
 /* Where the units of the number or of the mark begin that a word is in. */
 static uint32_t units_of(uint32_t at)
 {
