@@ -9,7 +9,7 @@ use flash_device::{Flash, NUMBER_PLACE, PageTable, RECORD_WORDS, slot_at};
 use nvm_board::DeviceErr;
 
 /// Takes one slot more into the table, and returns the first slot that is free.
-fn scan_slot<F: Flash>(
+pub fn scan_slot<F: Flash>(
     flash: &mut F,
     area: u8,
     slot: u16,

@@ -514,14 +514,14 @@ impl<F: FollowedFlash> FlashBoard<F> {
 }
 
 /// Returns true if one of the counts is at its end.
-fn has_ended(counts: &[u64]) -> bool
+pub fn has_ended(counts: &[u64]) -> bool
     ensures { IsTrue result ↔ Contains counts.now COUNT_END }
 {
     counts.contains(&COUNT_END)
 }
 
 /// Returns true if two secrets are equal. How long that takes does not depend on their bytes.
-fn are_equal(kept: &[u8; 8], shown: &[u8; 8]) -> bool
+pub fn are_equal(kept: &[u8; 8], shown: &[u8; 8]) -> bool
     ensures { IsTrue result ↔ (kept.now ≡ shown.now) }
 {
     let mut differences = 0u8;

@@ -3,4 +3,4 @@
 
 mod flash_board;
 
-pub use flash_board::FlashBoard;
+pub use flash_board::{FlashBoard, are_equal, has_ended};

@@ -3,7 +3,7 @@ use Rattle.std.specs.Prelude.{◌≡◌, ◌⊎◌, ◌<◌, ◌≤◌, ◌+◌,
 use Rattle.std.specs.Prelude.{◌&&◌, ◌||◌, nat_eq, nat_le, not, if◌then◌else◌}
 use Rattle.nvm_board.specs.declared.board.DeviceErr.{DeviceErr}
 use Rattle.flash_log.specs.declared.place.PageMap.{PageMap}
-use Rattle.flash_device.specs.declared.layout.TheConstants.{STEP_PAGES}
+use Rattle.flash_device.specs.declared.layout.TheConstants.{SPARES, STEP_PAGES}
 use Rattle.flash_device.specs.FlashBlocks.{steps_of}
 use Rattle.flash_device.specs.FlashCalls.{Costs, FlashState}
 use Rattle.flash_device.specs.FlashLogs.{base_in, turn_of, words_of}
@@ -200,6 +200,13 @@ abbrev pub KeepsFree : ℕ → ℕ → FlashState → FlashState → Type 0
 KeepsFree pages slots old new = (n : ℕ) → pages + (new.faults - old.faults) ≤ n
     → AreFree old.words (base_in slots (turn_of slots old.words)) n slots
     → AreFree new.words (base_in slots (turn_of slots new.words)) n slots
+
+-- The area in use stays free from a slot on that is behind all pages and the slots that a copy may pass over, whichever
+-- area that is, however often the flash fails.
+abbrev pub KeepsRoom : ℕ → ℕ → List ℕ → List ℕ → Type 0
+KeepsRoom pages slots m after = (n : ℕ) → pages + SPARES ≤ n
+    → AreFree m (base_in slots (turn_of slots m)) n slots
+    → AreFree after (base_in slots (turn_of slots after)) n slots
 
 -- More slots are free than a move begins at: the log knows them, or has yet to look for the pages.
 abbrev pub IsBeforeMove : ℕ → ℕ → ℕ → ℕ → Bool → List ℕ → Type 0

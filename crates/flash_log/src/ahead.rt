@@ -6,6 +6,7 @@ ghost use Rattle.flash_device.specs.FlashCalls.{Costs, SameElsewhere, Tries};
 ghost use Rattle.flash_device.specs.FlashLogs.{base_in, close_b, close_of, find, turn_of, words_of};
 ghost use Rattle.flash_device.specs.FlashLogs.{is_marked as has_mark};
 ghost use Rattle.flash_log.specs.Paces.{EndsStep, HasStepped, HasMoved, IsCaughtUp, IsInPace, IsRoomy, KeepsFree};
+ghost use Rattle.flash_log.specs.Paces.{KeepsRoom};
 ghost use Rattle.flash_log.specs.Paces.{MovesWell, StandsSo, StaysCopied, failed_since, lead_of, lost_since};
 ghost use Rattle.flash_device.specs.PageTables.{IsPageTable};
 ghost use Rattle.flash_log.specs.Places.{IsLog};
@@ -108,7 +109,7 @@ pub fn lead<F: Flash>() -> u16
 }
 
 /// Passes the turn to the other area, which has all pages.
-fn pass_turn<F: Flash>(flash: &mut F, place: &mut PageMap<F::Table>) -> Result<(), DeviceErr>
+pub fn pass_turn<F: Flash>(flash: &mut F, place: &mut PageMap<F::Table>) -> Result<(), DeviceErr>
     requires lit { (F.state flash.old).dark ≡ false }
     requires turn { place.old.turn ≡ turn_of F.SLOTS (F.state flash.old).words }
     requires moves { (place.old.turn < 3) × (place.old.turn ≢ 1) × IsRing F.SLOTS (F.state flash.old).words }
@@ -161,6 +162,7 @@ pub fn pass_on<F: Flash>(flash: &mut F, place: &mut PageMap<F::Table>) -> Result
     ensures area { SameElsewhere (F.state flash.old).words (close_b F.SLOTS) 4 (F.state flash.new).words }
     ensures mark { OnOk result (has_mark (F.state flash.new).words (close_b F.SLOTS) ≡ true) }
     ensures keeps_free { KeepsFree F.PAGES F.SLOTS (F.state flash.old) (F.state flash.new) }
+    ensures keeps_room { KeepsRoom F.PAGES F.SLOTS (F.state flash.old).words (F.state flash.new).words }
     ensures stands { (extra : ℕ) → IsCaughtUp F.PAGES F.SLOTS F.SECTORS extra place.old
         → StandsSo F.PAGES F.SLOTS F.SECTORS F.sector_start (F.state flash.new).words extra place.new
         (HasStepped F.PAGES F.SLOTS F.SECTORS extra place.new) }

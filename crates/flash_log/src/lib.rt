@@ -10,5 +10,9 @@ mod steps;
 mod turns;
 mod writing;
 
+pub use ahead::pass_turn;
 pub use flash_log::{FlashFault, FlashLog};
-pub use turns::format_flash;
+pub use place::PageMap;
+pub use renewal::leave_area;
+pub use turns::{find_turn, format_flash, has_ring, pass_witness};
+pub use writing::write_run;

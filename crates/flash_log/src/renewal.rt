@@ -5,7 +5,7 @@ ghost use Rattle.flash_device.specs.FlashCalls.{AreFilled, Costs, Lights, SameEl
 ghost use Rattle.flash_device.specs.FlashLogs.{base_in, words_of};
 ghost use Rattle.flash_device.specs.PageTables.{IsPageTable};
 ghost use Rattle.flash_log.specs.Paces.{HasFreeSlots, IsRoomy, KeepsFree, KeepsPace, RenewsOnly, WillKeepPace};
-ghost use Rattle.flash_log.specs.Paces.{failed_since, free_slots, lead_of, lost_since};
+ghost use Rattle.flash_log.specs.Paces.{KeepsRoom, failed_since, free_slots, lead_of, lost_since};
 ghost use Rattle.flash_log.specs.Places.{IsLog};
 ghost use Rattle.flash_area.specs.HeldPages.{HavePages, HoldsPage};
 ghost use Rattle.flash_log.specs.Renewals.{AreClean, HasLastMark, HoldsOnlyPages, IsCleanSlot};
@@ -39,6 +39,7 @@ fn leave_turn_1<F: Flash>(flash: &mut F, place: &mut PageMap<F::Table>) -> Resul
     ensures last { OnOk result (HasLastMark F.SLOTS (F.state flash.old).words place.old.turn
         → HasLastMark F.SLOTS (F.state flash.new).words place.new.turn) }
     ensures keeps_free { KeepsFree F.PAGES F.SLOTS (F.state flash.old) (F.state flash.new) }
+    ensures keeps_room { KeepsRoom F.PAGES F.SLOTS (F.state flash.old).words (F.state flash.new).words }
     ensures light { Tries 1 (F.state flash.old) (F.state flash.new) result }
     ensures work { Costs 2 2 (F.state flash.old) (F.state flash.new) }
     ensures erases { (F.state flash.new).erases ≤ (F.state flash.old).erases + 1 }
@@ -67,6 +68,7 @@ fn move_pages<F: Flash>(flash: &mut F, place: &mut PageMap<F::Table>) -> Result<
     ensures last { OnOk result (HasLastMark F.SLOTS (F.state flash.new).words place.new.turn) }
     ensures passes { OnOk result (place.new.next + (F.state flash.old).faults ≤ F.PAGES + (F.state flash.new).faults) }
     ensures keeps_free { KeepsFree F.PAGES F.SLOTS (F.state flash.old) (F.state flash.new) }
+    ensures keeps_room { KeepsRoom F.PAGES F.SLOTS (F.state flash.old).words (F.state flash.new).words }
     ensures light { Tries 1 (F.state flash.old) (F.state flash.new) result }
     ensures work { Costs (2 * F.PAGES + 5 + F.SECTORS) 2 (F.state flash.old) (F.state flash.new) }
     ensures erases { (F.state flash.new).erases ≤ (F.state flash.old).erases + F.SECTORS + 1 }
@@ -95,6 +97,7 @@ fn erase_spare<F: Flash>(flash: &mut F, place: &mut PageMap<F::Table>) -> Result
     ensures elsewhere { SameElsewhere (F.state flash.old).words (spare_in F.SLOTS place.old.turn) (area_size F.SLOTS)
         (F.state flash.new).words }
     ensures keeps_free { KeepsFree F.PAGES F.SLOTS (F.state flash.old) (F.state flash.new) }
+    ensures keeps_room { KeepsRoom F.PAGES F.SLOTS (F.state flash.old).words (F.state flash.new).words }
     ensures light { Tries 1 (F.state flash.old) (F.state flash.new) result }
     ensures work { Costs F.SECTORS 2 (F.state flash.old) (F.state flash.new) }
     ensures erases { (F.state flash.new).erases ≤ (F.state flash.old).erases + F.SECTORS }
@@ -208,7 +211,7 @@ fn end_move<F: Flash>(flash: &mut F, place: &mut PageMap<F::Table>) -> Result<()
 }
 
 /// Moves all pages to the other area, and erases the one that they leave.
-fn leave_area<F: Flash>(flash: &mut F, place: &mut PageMap<F::Table>) -> Result<(), DeviceErr>
+pub fn leave_area<F: Flash>(flash: &mut F, place: &mut PageMap<F::Table>) -> Result<(), DeviceErr>
     requires lit { (F.state flash.old).dark ≡ false }
     requires log { IsLog F.Table.entries F.PAGES F.SLOTS F.SECTORS F.sector_start (F.state flash.old).words place.old }
     requires ready { place.old.ready ≡ true }
@@ -222,6 +225,7 @@ fn leave_area<F: Flash>(flash: &mut F, place: &mut PageMap<F::Table>) -> Result<
     ensures free { OnOk result (F.SLOTS + (F.state flash.old).faults
         ≤ free_slots F.SLOTS place.new + F.PAGES + (F.state flash.new).faults) }
     ensures keeps_free { KeepsFree F.PAGES F.SLOTS (F.state flash.old) (F.state flash.new) }
+    ensures keeps_room { KeepsRoom F.PAGES F.SLOTS (F.state flash.old).words (F.state flash.new).words }
     // With the slots for a move it is in pace at every exit.
     ensures stands { F.PAGES + ((F.state flash.new).faults - (F.state flash.old).faults) + lead_of F.PAGES F.SECTORS
         ≤ F.SLOTS → HasFreeSlots F.SLOTS (lead_of F.PAGES F.SECTORS) (F.state flash.old).words

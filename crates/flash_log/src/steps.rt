@@ -8,7 +8,7 @@ ghost use Rattle.flash_device.specs.PageTables.{AreFree, IsPageTable};
 ghost use Rattle.flash_log.specs.Paces.{CopiesNoPageAt, HasStepped, HasMoved, HasNoStepDue, IsInPace, IsRoomy};
 ghost use Rattle.flash_log.specs.Paces.{KeepsFree, KeepsPace, MovesFound, MovesWell, Pauses, RegainsSlots, TakesSlot};
 ghost use Rattle.flash_log.specs.Paces.{IsBeforeMove, IsCaughtUp, WillKeepPace, extra_of, extra_slots, free_slots};
-ghost use Rattle.flash_log.specs.Paces.{StandsSo, failed_since, is_fresh, lead_of, lost_since};
+ghost use Rattle.flash_log.specs.Paces.{KeepsRoom, StandsSo, failed_since, is_fresh, lead_of, lost_since};
 ghost use Rattle.flash_log.specs.Places.{FindsFree, IsLog, IsPlaceOf, log_value};
 ghost use Rattle.flash_log.specs.SlotsInTurn.{FindsNext, IsNextSlot, TakesInTurn, WillTake};
 ghost use Rattle.flash_area.specs.HeldPages.{HavePages};
@@ -194,6 +194,7 @@ pub fn make_room<F: Flash>(flash: &mut F, place: &mut PageMap<F::Table>) -> Resu
     ensures last { OnOk result (F.SLOTS ≤ place.old.next
         → HasLastMark F.SLOTS (F.state flash.new).words place.new.turn) }
     ensures keeps_free { KeepsFree F.PAGES F.SLOTS (F.state flash.old) (F.state flash.new) }
+    ensures keeps_room { KeepsRoom F.PAGES F.SLOTS (F.state flash.old).words (F.state flash.new).words }
     ensures light { Tries 1 (F.state flash.old) (F.state flash.new) result }
     ensures work { Costs (2 * F.PAGES + 3 + F.SECTORS) 2 (F.state flash.old) (F.state flash.new) }
     ensures erases { (F.state flash.new).erases ≤ (F.state flash.old).erases + F.SECTORS + 1 }

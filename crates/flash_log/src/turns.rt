@@ -7,7 +7,7 @@ ghost use Rattle.flash_device.specs.FlashBlocks.{area_size, witness_start};
 ghost use Rattle.flash_device.specs.FlashLogs.{base_in, close_b, close_of, page_word, turn_by, turn_of, words_of};
 ghost use Rattle.flash_device.specs.FlashLogs.{is_closed as has_closed, is_marked as has_mark};
 ghost use Rattle.flash_area.specs.HeldPages.{HavePages};
-ghost use Rattle.flash_log.specs.Paces.{IsInPace, IsRoomy, KeepsFree};
+ghost use Rattle.flash_log.specs.Paces.{IsInPace, IsRoomy, KeepsFree, KeepsRoom};
 ghost use Rattle.flash_log.specs.Rings.{IsRing};
 ghost use Rattle.flash_device.specs.declared.layout.TheConstants.{SPARES};
 
@@ -120,6 +120,7 @@ pub fn move_to_b<F: Flash>(flash: &mut F, table: &mut F::Table) -> Result<u16, D
     ensures have { IfOk result (λ n. (F.state flash.new).faults ≡ (F.state flash.old).faults
         → HavePages F.PAGES F.SLOTS (F.state flash.new).words (area_size F.SLOTS) n) }
     ensures keeps_free { KeepsFree F.PAGES F.SLOTS (F.state flash.old) (F.state flash.new) }
+    ensures keeps_room { KeepsRoom F.PAGES F.SLOTS (F.state flash.old).words (F.state flash.new).words }
     ensures light { Tries 1 (F.state flash.old) (F.state flash.new) result }
     ensures work { Costs (2 * F.PAGES + 1 + F.SECTORS) 2 (F.state flash.old) (F.state flash.new) }
     ensures erases { (F.state flash.new).erases ≤ (F.state flash.old).erases + F.SECTORS }
@@ -146,6 +147,7 @@ pub fn move_to_a<F: Flash>(flash: &mut F, table: &mut F::Table) -> Result<u16, D
     ensures have { IfOk result (λ n. (F.state flash.new).faults ≡ (F.state flash.old).faults
         → HavePages F.PAGES F.SLOTS (F.state flash.new).words 0 n) }
     ensures keeps_free { KeepsFree F.PAGES F.SLOTS (F.state flash.old) (F.state flash.new) }
+    ensures keeps_room { KeepsRoom F.PAGES F.SLOTS (F.state flash.old).words (F.state flash.new).words }
     ensures mark { OnOk result (has_mark (F.state flash.new).words (witness_start F.SLOTS) ≡ true) }
     ensures light { Tries 1 (F.state flash.old) (F.state flash.new) result }
     ensures work { Costs (2 * F.PAGES + 1 + F.SECTORS) 2 (F.state flash.old) (F.state flash.new) }
@@ -176,6 +178,8 @@ pub fn format_flash<F: Flash>(flash: &mut F) -> Result<(), DeviceErr>
     ensures ring { OnOk result (IsRing F.SLOTS (F.state flash.new).words) }
     ensures blank { OnOk result ((i : ℕ) → i < 16 * F.PAGES
         → slice_index (words_of F.PAGES F.SLOTS (F.state flash.new).words) i ≡ 0) }
+    ensures free { OnOk result (AreFree (F.state flash.new).words
+        (base_in F.SLOTS (turn_of F.SLOTS (F.state flash.new).words)) 0 F.SLOTS) }
     ensures in_pace { OnOk result ((extra : ℕ) → IsRoomy F.PAGES F.SLOTS F.SECTORS extra
         → IsInPace F.PAGES F.SLOTS F.SECTORS F.sector_start (F.state flash.new).words extra) }
     ensures work { (F.state flash.new).operations ≤ (F.state flash.old).operations + 2 * F.SECTORS + 2 }

@@ -13,7 +13,7 @@ use Rattle.flash_device.specs.FlashCalls.{FlashState, SameElsewhere, Tries}
 use Rattle.flash_device.specs.FlashLogs.{base_in, close_b, close_of, turn_of, words_of}
 use Rattle.flash_device.specs.PageTables.{AreFree}
 use Rattle.flash_log.specs.Paces.{CopiesNoPageAt, HasFreeSlots, HasStepped, IsBeforeMove, IsCaughtUp, IsInPace}
-use Rattle.flash_log.specs.Paces.{IsInPaceFrom, KeepsFree, KeepsPace, StandsSo, WillKeepPace, free_slots}
+use Rattle.flash_log.specs.Paces.{IsInPaceFrom, KeepsFree, KeepsPace, KeepsRoom, StandsSo, WillKeepPace, free_slots}
 use Rattle.flash_log.specs.Paces.{EndsStep, is_fresh, lead_of, lost_since, lost_slots, steps_left}
 use Rattle.flash_log.specs.Places.{FindsFree, IsLog, IsPlaceOf}
 use Rattle.flash_log.specs.Rings.{IsRing, SameMarks}
@@ -93,6 +93,11 @@ module _ (pages slots : ℕ) where
   pub free_read : (old new : FlashState) → new.words ≡ old.words → KeepsFree pages slots old new
   free_read old new words = λ n far free.
       subst (λ (m : List ℕ). AreFree m (base_in slots (turn_of slots m)) n slots) (sym words) free
+
+  -- calls that only read, however often the flash fails
+  pub room_read : (m after : List ℕ) → after ≡ m → KeepsRoom pages slots m after
+  room_read m after words = λ n far free.
+      subst (λ (l : List ℕ). AreFree l (base_in slots (turn_of slots l)) n slots) (sym words) free
 
   -- with the slots for a move, but for one slot for each Fault, they stay
   pub kept_slots : (sectors : ℕ) (old new : FlashState)

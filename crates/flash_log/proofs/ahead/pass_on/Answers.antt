@@ -81,3 +81,19 @@ returns-clause-keeps_free g c = λ n far.
     let known = c.requires.log.known c.requires.ready in
     witness_free g.F.Flash.PAGES g.F.Flash.SLOTS m after n (sym known.turn ∙ c.requires.turn)
     c.pass_witness.ensures.area c.pass_witness.ensures.passes
+
+pub returns-in_err-pass_witness-clause-keeps_room : goal.returns-in_err-pass_witness-clause-keeps_room
+returns-in_err-pass_witness-clause-keeps_room g c = λ n far.
+    let m = (g.F.Flash.state c.args.flash.now).words in
+    let after = (g.F.Flash.state c.pass_witness.new.flash).words in
+    let known = c.requires.log.known c.requires.ready in
+    witness_free g.F.Flash.PAGES g.F.Flash.SLOTS m after n (sym known.turn ∙ c.requires.turn)
+    c.pass_witness.ensures.area c.pass_witness.ensures.passes
+
+pub returns-clause-keeps_room : goal.returns-clause-keeps_room
+returns-clause-keeps_room g c = λ n far.
+    let m = (g.F.Flash.state c.args.flash.now).words in
+    let after = (g.F.Flash.state c.pass_witness.new.flash).words in
+    let known = c.requires.log.known c.requires.ready in
+    witness_free g.F.Flash.PAGES g.F.Flash.SLOTS m after n (sym known.turn ∙ c.requires.turn)
+    c.pass_witness.ensures.area c.pass_witness.ensures.passes

@@ -8,7 +8,7 @@ use Rattle.flash_area.specs.laws.Copying.{area_free}
 use Rattle.flash_log.specs.laws.Renewing.{spare_erased}
 use Rattle.flash_log.specs.laws.Sparing.{index_same, spare_leaves, spare_stays}
 use Rattle.flash_log.specs.laws.Losing.{free_by_area}
-use Rattle.flash_log.specs.Paces.{KeepsFree}
+use Rattle.flash_log.specs.Paces.{KeepsFree, KeepsRoom}
 use Rattle.flash_log.proofs.renewal.erase_spare.Given.{Over}
 use Rattle.flash_log.proofs.renewal.erase_spare.Goals.{After-erase_area}
 use Rattle.flash_log.proofs.renewal.erase_spare.Goals as goal
@@ -109,3 +109,29 @@ returns-in_err-erase_area-clause-keeps_free g c =
 
 pub returns-clause-keeps_free : goal.returns-clause-keeps_free
 returns-clause-keeps_free g c = erase_free g (goal.at.returns-clause-keeps_free g c).After-erase_area
+
+-- the same however often the flash fails
+erase_room : (g : Over) (c : After-erase_area g)
+    → KeepsRoom g.F.Flash.PAGES g.F.Flash.SLOTS (g.F.Flash.state c.args.flash.now).words
+    (g.F.Flash.state c.erase_area.new.flash).words
+erase_room g c = λ n far.
+    let slots = g.F.Flash.SLOTS in
+    let pages = g.F.Flash.PAGES in
+    let m = (g.F.Flash.state c.args.flash.now).words in
+    let after = (g.F.Flash.state c.erase_area.new.flash).words in
+    let place = c.args.place.now in
+    let known = c.requires.log.known c.requires.ready.0 in
+    let within : SameElsewhere m (spare_in slots place.turn) (area_size slots) after =
+    subst (λ (b : ℕ). SameElsewhere m b (area_size slots) after) (c.spare.ensures.is slots)
+    c.erase_area.ensures.elsewhere in
+    let stays = spare_stays pages slots m after place.turn c.requires.log.ring known.turn known.small c.requires.ready.1
+    within in
+    free_by_area pages slots m after (base_in slots place.turn) n (ap (base_in slots) (sym known.turn))
+    (ap (base_in slots) (stays.turn ∙ sym known.turn)) (spare_leaves slots m after place.turn within)
+
+pub returns-in_err-erase_area-clause-keeps_room : goal.returns-in_err-erase_area-clause-keeps_room
+returns-in_err-erase_area-clause-keeps_room g c =
+    erase_room g (goal.at.returns-in_err-erase_area-clause-keeps_room g c).After-erase_area
+
+pub returns-clause-keeps_room : goal.returns-clause-keeps_room
+returns-clause-keeps_room g c = erase_room g (goal.at.returns-clause-keeps_room g c).After-erase_area

@@ -12,7 +12,7 @@ use Rattle.flash_area.specs.Spares.{spare_in}
 use Rattle.flash_log.specs.laws.Renewing.{home_held, last_same, only_pages, pace_renewed}
 use Rattle.flash_log.specs.laws.Ending.{freed_stands}
 use Rattle.flash_log.specs.laws.Lighting.{lights_faults, tries_faults}
-use Rattle.flash_log.specs.laws.Losing.{free_read, free_then, kept_slots}
+use Rattle.flash_log.specs.laws.Losing.{free_read, free_then, kept_slots, room_read}
 use Rattle.flash_log.proofs.renewal.leave_area.Goals as goal
 
 pub returns-then-branch-clause-only : goal.returns-then-branch-clause-only
@@ -237,3 +237,28 @@ returns-clause-keeps_free g c =
     (free_then pages slots old moved erased less more
     c.move_pages.ensures.keeps_free c.erase_spare.ensures.keeps_free)
     (free_read pages slots erased new c.are_clean.ensures.words)
+
+pub returns-in_err-move_pages-clause-keeps_room : goal.returns-in_err-move_pages-clause-keeps_room
+returns-in_err-move_pages-clause-keeps_room g c = c.move_pages.ensures.keeps_room
+
+pub returns-in_err-erase_spare-clause-keeps_room : goal.returns-in_err-erase_spare-clause-keeps_room
+returns-in_err-erase_spare-clause-keeps_room g c = λ n far free.
+    c.erase_spare.ensures.keeps_room n far (c.move_pages.ensures.keeps_room n far free)
+
+pub returns-in_err-are_clean-clause-keeps_room : goal.returns-in_err-are_clean-clause-keeps_room
+returns-in_err-are_clean-clause-keeps_room g c = λ n far free.
+    room_read g.F.Flash.PAGES g.F.Flash.SLOTS (g.F.Flash.state c.erase_spare.new.flash).words
+    (g.F.Flash.state c.are_clean.new.flash).words c.are_clean.ensures.words n far
+    (c.erase_spare.ensures.keeps_room n far (c.move_pages.ensures.keeps_room n far free))
+
+pub returns-then-branch-clause-keeps_room : goal.returns-then-branch-clause-keeps_room
+returns-then-branch-clause-keeps_room g c = λ n far free.
+    room_read g.F.Flash.PAGES g.F.Flash.SLOTS (g.F.Flash.state c.erase_spare.new.flash).words
+    (g.F.Flash.state c.are_clean.new.flash).words c.are_clean.ensures.words n far
+    (c.erase_spare.ensures.keeps_room n far (c.move_pages.ensures.keeps_room n far free))
+
+pub returns-clause-keeps_room : goal.returns-clause-keeps_room
+returns-clause-keeps_room g c = λ n far free.
+    room_read g.F.Flash.PAGES g.F.Flash.SLOTS (g.F.Flash.state c.erase_spare.new.flash).words
+    (g.F.Flash.state c.are_clean.new.flash).words c.are_clean.ensures.words n far
+    (c.erase_spare.ensures.keeps_room n far (c.move_pages.ensures.keeps_room n far free))

@@ -33,3 +33,12 @@ returns-in_err-pass_on-clause-keeps_free g c = c.pass_on.ensures.keeps_free
 
 pub returns-clause-keeps_free : goal.returns-clause-keeps_free
 returns-clause-keeps_free g c = c.pass_on.ensures.keeps_free
+
+pub returns-then-place-ne1-clause-keeps_room : goal.returns-then-place-ne1-clause-keeps_room
+returns-then-place-ne1-clause-keeps_room g c = λ n far free. free
+
+pub returns-in_err-pass_on-clause-keeps_room : goal.returns-in_err-pass_on-clause-keeps_room
+returns-in_err-pass_on-clause-keeps_room g c = c.pass_on.ensures.keeps_room
+
+pub returns-clause-keeps_room : goal.returns-clause-keeps_room
+returns-clause-keeps_room g c = c.pass_on.ensures.keeps_room

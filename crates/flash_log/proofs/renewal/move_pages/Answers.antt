@@ -25,3 +25,14 @@ returns-clause-keeps_free g c =
     let more = tries_faults 1 room new c.leave_turn_1.result c.leave_turn_1.ensures.light in
     free_then g.F.Flash.PAGES g.F.Flash.SLOTS old room new less more
     c.make_room.ensures.keeps_free c.leave_turn_1.ensures.keeps_free
+
+pub returns-in_err-make_room-clause-keeps_room : goal.returns-in_err-make_room-clause-keeps_room
+returns-in_err-make_room-clause-keeps_room g c = c.make_room.ensures.keeps_room
+
+pub returns-in_err-leave_turn_1-clause-keeps_room : goal.returns-in_err-leave_turn_1-clause-keeps_room
+returns-in_err-leave_turn_1-clause-keeps_room g c = λ n far free.
+    c.leave_turn_1.ensures.keeps_room n far (c.make_room.ensures.keeps_room n far free)
+
+pub returns-clause-keeps_room : goal.returns-clause-keeps_room
+returns-clause-keeps_room g c = λ n far free.
+    c.leave_turn_1.ensures.keeps_room n far (c.make_room.ensures.keeps_room n far free)

@@ -5,7 +5,7 @@ use Rattle.flash_device.specs.FlashLogs.{words_of}
 use Rattle.flash_log.specs.laws.Moving.{base_other, witness_area}
 use Rattle.flash_log.specs.laws.Sparing.{spare_none}
 use Rattle.flash_device.specs.FlashBlocks.{area_size}
-use Rattle.flash_log.specs.Paces.{KeepsFree}
+use Rattle.flash_log.specs.Paces.{KeepsFree, KeepsRoom}
 use Rattle.flash_device.specs.FlashCalls.{FlashState}
 use Rattle.flash_log.specs.laws.Lighting.{tries_faults}
 use Rattle.flash_log.specs.laws.Losing.{free_then, witness_free}
@@ -201,3 +201,46 @@ returns-in_err-free_in_a-clause-keeps_free g c =
 
 pub returns-clause-keeps_free : goal.returns-clause-keeps_free
 returns-clause-keeps_free g c = move_free g (goal.at.returns-clause-keeps_free g c).After-move_to_a
+
+pub returns-then-place-SLOTS-clause-keeps_room : goal.returns-then-place-SLOTS-clause-keeps_room
+returns-then-place-SLOTS-clause-keeps_room g c = λ n far free. free
+
+pub returns-in_err-free_in_b-clause-keeps_room : goal.returns-in_err-free_in_b-clause-keeps_room
+returns-in_err-free_in_b-clause-keeps_room g c = c.move_to_b.ensures.keeps_room
+
+pub returns-then-place-eq0-clause-keeps_room : goal.returns-then-place-eq0-clause-keeps_room
+returns-then-place-eq0-clause-keeps_room g c = c.move_to_b.ensures.keeps_room
+
+pub returns-in_err-pass_witness-clause-keeps_room : goal.returns-in_err-pass_witness-clause-keeps_room
+returns-in_err-pass_witness-clause-keeps_room g c = λ n far.
+    let known = c.requires.log.known c.requires.ready in
+    witness_free g.F.Flash.PAGES g.F.Flash.SLOTS (g.F.Flash.state c.args.flash.now).words
+    (g.F.Flash.state c.pass_witness.new.flash).words n (sym known.turn ∙ c.if-place-eq1.true)
+    c.pass_witness.ensures.area c.pass_witness.ensures.passes
+
+-- the same however often the flash fails
+move_room : (g : Over) (c : After-move_to_a g)
+    → KeepsRoom g.F.Flash.PAGES g.F.Flash.SLOTS (g.F.Flash.state c.args.flash.now).words
+    (g.F.Flash.state c.move_to_a.new.flash).words
+move_room g c = λ n far free.
+    let slots = g.F.Flash.SLOTS in
+    let pages = g.F.Flash.PAGES in
+    let m = (g.F.Flash.state c.args.flash.now).words in
+    let known = c.requires.log.known c.requires.ready in
+    let first : KeepsRoom pages slots m (g.F.Flash.state c.if-place-eq1.flash).words = elim c.if-place-eq1.branch [
+      | then-place-eq1+in_ok-pass_witness w ↦
+          subst (λ (s : FlashState). KeepsRoom pages slots m s.words) (λ i. g.F.Flash.state ((sym w.flash-is) i))
+          (λ k past. witness_free pages slots m (g.F.Flash.state w.pass_witness.new.flash).words k
+          (sym known.turn ∙ w.if-place-eq1.true) w.pass_witness.ensures.area w.pass_witness.ensures.passes)
+      | else-place-eq1 w ↦
+          subst (λ (s : FlashState). KeepsRoom pages slots m s.words) (λ i. g.F.Flash.state ((sym w.flash-is) i))
+          (λ k past still. still)
+    ] in
+    c.move_to_a.ensures.keeps_room n far (first n far free)
+
+pub returns-in_err-free_in_a-clause-keeps_room : goal.returns-in_err-free_in_a-clause-keeps_room
+returns-in_err-free_in_a-clause-keeps_room g c =
+    move_room g (goal.at.returns-in_err-free_in_a-clause-keeps_room g c).After-move_to_a
+
+pub returns-clause-keeps_room : goal.returns-clause-keeps_room
+returns-clause-keeps_room g c = move_room g (goal.at.returns-clause-keeps_room g c).After-move_to_a

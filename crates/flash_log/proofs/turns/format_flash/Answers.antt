@@ -34,6 +34,18 @@ returns-clause-blank g c =
     (g.F.Flash.state c.close.new.flash).words c.in_ok-erase_flash.ensures.done c.in_ok-close.ensures.done
     c.close.ensures.elsewhere
 
+pub returns-clause-free : goal.returns-clause-free
+returns-clause-free g c =
+    let slots = g.F.Flash.SLOTS in
+    let pages = g.F.Flash.PAGES in
+    let blank = (g.F.Flash.state c.erase_flash.new.flash).words in
+    let m = (g.F.Flash.state c.close.new.flash).words in
+    let turn = formatted_turn pages slots blank m c.in_ok-erase_flash.ensures.done c.in_ok-close.ensures.done
+    c.close.ensures.elsewhere in
+    subst (λ (t : ℕ). AreFree m (base_in slots t) 0 slots) (sym turn)
+    (formatted_free pages slots blank m c.in_ok-erase_flash.ensures.done c.in_ok-close.ensures.done
+    c.close.ensures.elsewhere)
+
 pub returns-clause-in_pace : goal.returns-clause-in_pace
 returns-clause-in_pace g c = λ extra roomy.
     let slots = g.F.Flash.SLOTS in

@@ -9,7 +9,7 @@ use Rattle.flash_log.specs.laws.Renewing.{same_held}
 use Rattle.flash_device.specs.FlashBlocks.{area_size}
 use Rattle.flash_log.specs.laws.Lighting.{lights_faults}
 use Rattle.flash_log.specs.laws.Losing.{free_by_area, free_by_turn}
-use Rattle.flash_log.specs.Paces.{KeepsFree}
+use Rattle.flash_log.specs.Paces.{KeepsFree, KeepsRoom}
 use Rattle.flash_log.specs.Rings.{IsRing}
 use Rattle.flash_log.proofs.turns.move_to_b.Given.{Over}
 use Rattle.flash_log.proofs.turns.move_to_b.Goals.{After-close}
@@ -196,3 +196,54 @@ returns-in_err-close-clause-keeps_free g c =
 
 pub returns-clause-keeps_free : goal.returns-clause-keeps_free
 returns-clause-keeps_free g c = close_free g (goal.at.returns-clause-keeps_free g c).After-close
+
+pub returns-in_err-next-clause-keeps_room : goal.returns-in_err-next-clause-keeps_room
+returns-in_err-next-clause-keeps_room g c = λ n far.
+    let slots = g.F.Flash.SLOTS in
+    let pages = g.F.Flash.PAGES in
+    let m = (g.F.Flash.state c.args.flash.now).words in
+    let mid = (g.F.Flash.state c.erase_and_copy.new.flash).words in
+    let stays : Stays pages slots m mid = zero_stays pages slots m mid c.requires.ring c.requires.turn
+    c.erase_and_copy.ensures.elsewhere in
+    free_by_area pages slots m mid 0 n (ap (base_in slots) c.requires.turn)
+    (ap (base_in slots) (stays.turn ∙ c.requires.turn))
+    (whole_area pages slots m mid 0 1 refl c.erase_and_copy.ensures.elsewhere)
+
+-- the same however often the flash fails
+close_room : (g : Over) (c : After-close g)
+    → KeepsRoom g.F.Flash.PAGES g.F.Flash.SLOTS (g.F.Flash.state c.args.flash.now).words
+    (g.F.Flash.state c.close.new.flash).words
+close_room g c = λ n far.
+    let slots = g.F.Flash.SLOTS in
+    let pages = g.F.Flash.PAGES in
+    let m = (g.F.Flash.state c.args.flash.now).words in
+    let mid = (g.F.Flash.state c.erase_and_copy.new.flash).words in
+    let after = (g.F.Flash.state c.close.new.flash).words in
+    let passes : Passes pages slots m after 0 1 =
+    zero_passes pages slots m mid after c.requires.ring c.requires.turn c.erase_and_copy.ensures.elsewhere
+    c.in_ok-next.ensures.open
+    c.close.ensures.elsewhere c.in_ok-next.ensures.pages in
+    let turns : (base_in slots (turn_of slots after) ≡ 0) ⊎ (base_in slots (turn_of slots after) ≡ area_size slots) =
+    ⊎_elim (λ (e : turn_of slots after ≡ 0). inl (ap (base_in slots) e))
+    (λ (e : turn_of slots after ≡ 1). inr (ap (base_in slots) e)) passes.turn in
+    let here : SameArea slots m after 0 = record {
+      each = λ k low high.
+          let x : k < 20 * slots = omega (arith, high) in let y : k < area_size slots = omega (arith, high) in
+          c.close.ensures.elsewhere.same k (inl x) ∙ c.erase_and_copy.ensures.elsewhere.same k (inl y);
+    } in
+    let there : SameArea slots mid after (area_size slots) = record {
+      each = λ k low high. let x : (20 * slots) + 2 ≤ k = omega (arith, low) in
+          c.close.ensures.elsewhere.same k (inr x);
+    } in
+    let few = c.in_ok-next.ensures.room in
+    free_by_turn pages slots m after 0 (area_size slots) c.in_ok-next.next n
+    (ap (base_in slots) c.requires.turn) turns here
+    (area_free slots mid after (area_size slots) there c.in_ok-next.next c.in_ok-next.ensures.free)
+    (omega (arith, few, far))
+
+pub returns-in_err-close-clause-keeps_room : goal.returns-in_err-close-clause-keeps_room
+returns-in_err-close-clause-keeps_room g c =
+    close_room g (goal.at.returns-in_err-close-clause-keeps_room g c).After-close
+
+pub returns-clause-keeps_room : goal.returns-clause-keeps_room
+returns-clause-keeps_room g c = close_room g (goal.at.returns-clause-keeps_room g c).After-close
