@@ -2,7 +2,8 @@
 use std::fs::{File, OpenOptions};
 use std::io;
 use std::os::unix::io::AsRawFd;
-use std::path::PathBuf;
+use std::path::{Path, PathBuf};
+use std::process::Command;
 
 use soffitfennel::{Card, Error, FreeSpace, Reader, Step, MOST_PAGES, MOST_WORDS, ROOM, WORDS};
 
@@ -16,6 +17,8 @@ const LOCK_SHARED_AT_ONCE: i32 = 5;
 
 extern "C" {
     fn flock(file: i32, operation: i32) -> i32;
+    fn close(file: i32) -> i32;
+    fn write(file: i32, bytes: *const u8, count: usize) -> isize;
 }
 
 fn powered() -> Result<Card, Error> {
@@ -117,6 +120,37 @@ fn a_clone_of_a_file_has_no_other_card() -> io::Result<()> {
     assert_eq!(Card::attach(other.try_clone()?).err().map(|it| it.kind()), Some(io::ErrorKind::WouldBlock));
     drop(card);
     Card::attach(other).map(drop)
+}
+
+/// In a process of its own: closes the standard streams, and writes to their numbers once a card has a file. Whether
+/// that file got the number of a stream, and is as before.
+fn streamless(path: &Path) -> io::Result<bool> {
+    let before = std::fs::read(path)?;
+    for stream in 0..3 {
+        // SAFETY: no value of Rust owns a standard stream.
+        unsafe { close(stream) };
+    }
+    let file = OpenOptions::new().read(true).write(true).open(path)?;
+    let is_stream = file.as_raw_fd() < 3;
+    let _card = Card::attach(file)?;
+    for stream in 0..3 {
+        // SAFETY: the bytes are those of a string.
+        unsafe { write(stream, "message".as_ptr(), 7) };
+    }
+    Ok(is_stream && std::fs::read(path)? == before)
+}
+
+#[test]
+fn a_card_takes_no_place_of_a_stream() -> io::Result<()> {
+    const NAMED: &str = "SOFFITFENNEL_STREAMLESS";
+    if let Some(path) = std::env::var_os(NAMED) {
+        std::process::exit(i32::from(!streamless(path.as_ref()).unwrap_or(false)));
+    }
+    let kept = Kept::new("streams")?;
+    let words = ["--exact", "a_card_takes_no_place_of_a_stream"];
+    let ended = Command::new(std::env::current_exe()?).args(words).env(NAMED, &kept.0).output()?;
+    assert!(ended.status.success());
+    Ok(())
 }
 
 #[test]
