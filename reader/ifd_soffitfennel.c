@@ -138,13 +138,27 @@ static bool may_reach(size_t size)
     return false;
 }
 
-/* Writes all bytes to a new file, down to the disk, and closes it. */
-static bool fill_file(int file, const void *bytes, size_t size)
+/* The file at a descriptor above those of the standard streams. (A process without one of them gives its number to the
+ * next file, and would write its messages into the card.) */
+static int above_streams(int file)
 {
+    int above = file < 0 || file > STDERR_FILENO ? file : fcntl(file, F_DUPFD_CLOEXEC, STDERR_FILENO + 1);
+    int error = errno;
+
+    if (above != file)
+        close(file);
+    errno = error;
+    return above;
+}
+
+/* Writes all bytes to a new file, down to the disk, and closes it. */
+static bool fill_file(int fresh, const void *bytes, size_t size)
+{
+    int file = above_streams(fresh);
     size_t written = 0;
     ssize_t now = 0;
 
-    if (!may_reach(size))
+    if (file < 0 || !may_reach(size))
         now = -1;
     while (now >= 0 && written < size && (now = write(file, (const char *)bytes + written, size - written)) > 0)
         written += (size_t)now;
@@ -190,19 +204,6 @@ static bool make_card(const char *path, const char *folder, uint32_t *words)
     is_made = unlink(fresh) == 0 && is_made && sync_folder(folder);
     say(path, is_made ? "a new card is made, with the factory card's PINs" : strerror(error));
     return is_made;
-}
-
-/* The file at a descriptor above those of the standard streams. (A process without one of them gives its number to the
- * next file, and would write its messages into the card.) */
-static int above_streams(int file)
-{
-    int above = file < 0 || file > STDERR_FILENO ? file : fcntl(file, F_DUPFD_CLOEXEC, STDERR_FILENO + 1);
-    int error = errno;
-
-    if (above != file)
-        close(file);
-    errno = error;
-    return above;
 }
 
 /* Opens the file, which no other program may use meanwhile. -1: it can't, and the log says why. */

@@ -67,14 +67,15 @@ int link(const char *from, const char *to)
     return (int)syscall(SYS_linkat, AT_FDCWD, from, AT_FDCWD, to, 0);
 }
 
-/* The folders that the driver brought to the disk. */
-static int synced_folders;
+/* The folders that the driver brought to the disk, and the files at a number of a standard stream. */
+static int synced_folders, synced_streams;
 
 int fsync(int file)
 {
     struct stat it;
 
     synced_folders += fstat(file, &it) == 0 && S_ISDIR(it.st_mode);
+    synced_streams += S_ISREG(it.st_mode) && file <= STDERR_FILENO;
     return (int)syscall(SYS_fsync, file);
 }
 
@@ -470,6 +471,40 @@ static void open_folders(const char *folder)
     }
 }
 
+/* The code of a reader that begins while the standard streams are closed, and how many of them are open then. */
+static RESPONSECODE begin_without_streams(DWORD lun, char *path, int *open_streams)
+{
+    int above[STDERR_FILENO + 1];
+
+    for (int it = 0; it <= STDERR_FILENO; it++)
+        must((above[it] = fcntl(it, F_DUPFD_CLOEXEC, STDERR_FILENO + 1)) >= 0 && close(it) == 0, "a stream");
+    RESPONSECODE code = create(lun, path);
+    *open_streams = 0;
+    for (int it = 0; it <= STDERR_FILENO; it++)
+        *open_streams += fcntl(it, F_GETFD) >= 0;
+    for (int it = 0; it <= STDERR_FILENO; it++)
+        must(dup2(above[it], it) == it && close(above[it]) == 0, "a stream");
+    return code;
+}
+
+/* What the service prints goes into no card, new or old, that gets the number of a closed stream. */
+static void closed_streams(const char *folder)
+{
+    char *path = path_of(folder, "streams");
+    int open_streams;
+
+    for (int is_there = 0; is_there < 2; is_there++) {
+        same(begin_without_streams(1, path, &open_streams), IFD_SUCCESS, "a reader without standard streams");
+        says(is_there ? "" : "a new card is made");
+        same(open_streams, 0, "a card in place of a standard stream");
+        if (open_streams != 0) /* (the reader's end would close a stream of this program) */
+            exit(1);
+        same(synced_streams, 0, "a new card in place of a standard stream");
+        start(1, IFD_SUCCESS);
+        same(end(1), IFD_SUCCESS, "the reader ends");
+    }
+}
+
 static void readers(const char *folder, char *path)
 {
     char *names[] = {path, path_of(folder, "card1"), path_of(folder, "card2"), path_of(folder, "card3")};
@@ -481,6 +516,7 @@ static void readers(const char *folder, char *path)
     full_folder(folder);
     open_folders(folder);
     precious_files(folder);
+    closed_streams(folder);
     for (DWORD lun = 1; lun < 4; lun++)
         begin(lun, names[lun]);
     same(has_sync(names[0]), true, "a card whose name says so has each write on the disk");
