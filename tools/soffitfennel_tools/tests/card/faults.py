@@ -241,23 +241,23 @@ def of_other_writers(checks: Checks, bench: Bench) -> None:
     second.unlink()
 
 
-def of_closed_streams(checks: Checks, bench: Bench) -> None:
-    """A program whose standard streams are closed prints nothing into its card, old or new."""
+def closed_streams(checks: Compares, bench: Bench, image: bytes) -> None:
+    """A program whose standard streams are closed prints nothing into its card: an old one of this image stays, and a
+    new one gets the same image."""
     streams = {"input": 0, "output": 1, "error": 2}
     for names in (["input"], ["output"], ["error"], ["output", "error"], [*streams]):
         for what in ("old", "new"):
             bench.image.unlink(missing_ok=True)
             if what == "old":
-                bench.image.write_bytes(data_of(factory()))
+                bench.image.write_bytes(image)
 
             def close(numbers: list[int] = [streams[it] for it in names]) -> None:
                 for number in numbers:
                     os.close(number)
 
             status, _, _ = bench.run("on\napdu 00A4000C022FE2\nbad\n", preexec_fn=close)
-            after = bench.image.read_bytes()
             where = f"without standard {', '.join(names)}, an {what} card"
-            checks.compare(f"{where}: the file", True, after == data_of(factory()))
+            checks.compare(f"{where}: the file", True, bench.image.is_file() and bench.image.read_bytes() == image)
             checks.compare(f"{where}: the status", True, status not in (0, NO_CARD) or "input" in names)
 
 
@@ -293,7 +293,7 @@ def check(checks: Checks, program: str, folder: Path) -> None:
     bench.image.write_bytes(data_of(factory()))
     of_another_user(checks, bench)
     of_two(checks, bench)
-    of_closed_streams(checks, bench)
+    closed_streams(checks, bench, data_of(factory()))
     under_way(checks, bench, "the file is removed", bench.image.unlink)
     under_way(checks, bench, "the file is cut short", lambda: os.truncate(bench.image, 64 * 1000))
     of_other_writers(checks, bench)
