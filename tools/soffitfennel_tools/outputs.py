@@ -2,6 +2,8 @@
 from __future__ import annotations
 
 import os
+import secrets
+import shutil
 import signal
 import sys
 from pathlib import Path
@@ -12,11 +14,31 @@ UNWRITABLE = 4
 
 
 def write(path: Path, content: str | bytes) -> None:
-    """Writes a file; an error names it, also where the disk is full."""
+    """Writes a file, whole or not at all; an error names it, also where the disk is full. A device or a pipe has got
+    what it took."""
+    data = content.encode("utf-8") if isinstance(content, str) else content
     try:
-        path.write_bytes(content.encode("utf-8") if isinstance(content, str) else content)
+        if path.exists() and not path.is_file():
+            path.write_bytes(data)
+        else:
+            put_in_place(Path(os.path.realpath(path)), data)
     except OSError as error:
         raise OSError(error.errno, error.strerror, str(path)) from error
+
+
+def put_in_place(path: Path, data: bytes) -> None:
+    """Writes a file under a name that nobody knows, and then gives it its own. One that is there keeps its mode, and
+    stays where it may not be written."""
+    fresh = path.with_name(f".output.{secrets.token_hex(8)}")
+    try:
+        with open(fresh, "xb") as file:
+            file.write(data)
+        if path.exists():
+            os.close(os.open(path, os.O_WRONLY))
+            shutil.copymode(path, fresh)
+        os.replace(fresh, path)
+    finally:
+        fresh.unlink(missing_ok=True)
 
 
 def show(tool: str, text: str) -> None:
