@@ -6,7 +6,11 @@ import json
 import os
 import stat
 
+from ..small_disk import NO_DISK, fill, left, small_disk
 from .room import CARDS, TOP, Room, run
+
+# KiB of a disk: less than a card of 65,536 bytes, and room for one alone
+LITTLE, ENOUGH = 40, 80
 
 # cards of many kinds: the script that makes each (examples/)
 MADE = (
@@ -264,3 +268,25 @@ class Files(Room):
         self.assertEqual(came.returncode, 1, came.stderr)
         self.assertRegex(came.stderr, r"\Aissue: .+ can't be written: File too large\n\Z")
         self.assertEqual(list(self.room.iterdir()), [])
+
+    def test_a_small_disk(self) -> None:
+        with small_disk(LITTLE) as disk:
+            if disk is None:
+                self.skipTest(NO_DISK)
+            said = self.refused("issue", CARDS / "purse.card", disk / "out")
+            self.assertEqual(said, f"issue: {disk}/out can't be written: No space left on device")
+            self.assertEqual(left(disk), {})
+
+    def test_a_card_on_a_full_disk(self) -> None:
+        with small_disk(ENOUGH) as disk:
+            if disk is None:
+                self.skipTest(NO_DISK)
+            card, text = disk / "out", disk / "text"
+            self.tool("issue", CARDS / "purse.card", card)
+            fill(disk)
+            before = left(disk)
+            for words in (("--replace", CARDS / "uicc.card", card), ("--describe", card, text),
+                          ("--replace", "--from", card, "--set", "state=terminated", card)):
+                said = self.refused("issue", *words)
+                self.assertEqual(said, f"issue: {words[-1]} can't be written: No space left on device")
+                self.assertTrue(left(disk) == before, words)
