@@ -57,5 +57,7 @@ def show(tool: str, text: str) -> None:
 
 def unwritten(tool: str, error: OSError) -> NoReturn:
     """Ends a tool whose output can't be written, without a second try at what is still to be written."""
-    print(f"{tool}: {error.filename or 'the output'} can't be written: {error.strerror}", file=sys.stderr, flush=True)
+    # (of a copy the second file is the one that is written)
+    file = error.filename2 or error.filename or "the output"
+    print(f"{tool}: {file} can't be written: {error.strerror}", file=sys.stderr, flush=True)
     os._exit(UNWRITABLE)

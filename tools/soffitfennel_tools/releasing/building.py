@@ -8,6 +8,7 @@ import subprocess
 from pathlib import Path
 from typing import NamedTuple
 
+from ..outputs import UNWRITABLE
 from .tree import TOP, Refused, git, is_changed, tool, words
 
 # the variables that would put another program into a release
@@ -46,7 +47,10 @@ def run(*given: object, folder: Path | None = None) -> str:
         raise Refused(f"{command[0]} can't be run: {error.strerror}") from None
     if ran.returncode:
         last = (ran.stderr.strip() or ran.stdout.strip() or "it says nothing").splitlines()[-1]
-        raise Refused(f"{Path(command[0]).name} ended with status {ran.returncode}: {last}")
+        # (of a tool of this tree; another program means something else by this status)
+        is_unwritten = ran.returncode == UNWRITABLE and TOP in Path(command[0]).parents
+        why = f"{Path(command[0]).name} ended with status {ran.returncode}: {last}"
+        raise Refused(why, UNWRITABLE if is_unwritten else 1)
     return (ran.stdout.strip().splitlines() or [""])[-1]
 
 

@@ -14,7 +14,11 @@ VERSION = re.compile(r"\d+\.\d+\.\d+(-dev)?")
 
 
 class Refused(Exception):
-    """Why no release is made."""
+    """Why no release is made, and the exit status."""
+
+    def __init__(self, why: str, status: int = 1):
+        super().__init__(why)
+        self.status = status
 
 
 def tool(name: str) -> Path:

@@ -12,6 +12,7 @@ from ...arguments import commands as names_of_commands
 from ...git_environment import without_git
 from ...releasing import building, commands, completion, layout, manuals
 from ...releasing.tree import Refused, version
+from ..small_disk import NO_DISK, small_disk
 from .common import RELEASE, TOP, room_of, run
 
 NUMBER = r"(\d+\.\d+\.\d+)"
@@ -180,6 +181,20 @@ class Refusals(unittest.TestCase):
             (room / name).symlink_to(shutil.which(name) or "/nonexistent")
         (room / "python3").symlink_to(sys.executable)
         self.refused(1, "needs Debian's .*gcc", "--unproved", PATH=str(room))
+
+    def test_a_small_disk(self) -> None:
+        # (the page has no room, then a program)
+        for kibibytes, why in ((400, r"page ended with status 4: [^\n]*"), (6000, r"{disk}/\.release-[^\n]*")):
+            with small_disk(kibibytes) as disk:
+                if disk is None:
+                    self.skipTest(NO_DISK)
+                came = run(RELEASE, "--unproved", disk / "out")
+                if "a release needs Debian's" in came.stderr:
+                    self.skipTest(came.stderr.strip())
+                self.assertEqual((came.returncode, came.stdout), (4, ""), came.stderr)
+                wanted = rf"\Atools/release: {why.format(disk=disk)} can't be written: No space left on device\n\Z"
+                self.assertRegex(came.stderr, wanted)
+                self.assertEqual(list(disk.iterdir()), [])
 
     def test_no_proof(self) -> None:
         top = self.clone()
