@@ -1,0 +1,200 @@
+//! The log of a flash with small sectors as one value: the words that it stands for, and its power.
+ghost use Rattle.std.specs.Prelude.{◌≡◌, ◌⊎◌, ◌<◌, ◌≤◌, ◌+◌, ◌-◌, ◌*◌, ℕ, true, false, length, slice_index};
+ghost use Rattle.std.specs.Prelude.{IfErr, IfOk, OnOk};
+ghost use Rattle.nvm_board.specs.Facts.{AreWords, IsMemory};
+ghost use Rattle.nvm_board.specs.History.{written};
+ghost use Rattle.flash_device.specs.FlashCalls.{Costs, Lights, Tries};
+ghost use Rattle.sector_log.specs.declared.steps.TheConstants.{TRIES};
+
+use crate::opening::{SectorFault, find_log, new_place};
+use crate::renewing::renew_at;
+use crate::sector_flash::SectorFlash;
+use crate::steps::{read_at, write_at};
+use flash_device::FlashSocket;
+use flash_log::PageMap;
+use nvm_board::DeviceErr;
+use std::marker::Model;
+
+/// A flash with small sectors, and where its pages are.
+#[derive(Drop)]
+pub struct SectorLog<F: SectorFlash> {
+    flash: F,
+    place: PageMap<F::Table>,
+}
+
+impl<F: SectorFlash> Model for SectorLog<F> {
+    ghost use Rattle.sector_log.specs.SectorPlaces.{IsSectorLog, SectorLogState, sector_log_value};
+
+    ghost Value = { SectorLogState };
+
+    ghost view = { λ l. sector_log_value F.PAGES F.SLOTS (F.state l.flash) l.place };
+
+    ghost invariant = { λ l. IsSectorLog F.Table.entries F.PAGES F.SLOTS F.SECTORS F.sector_start
+        (F.state l.flash).words l.place };
+}
+
+impl<F: SectorFlash> SectorLog<F> {
+    ghost use Rattle.flash_device.specs.FlashCalls.{StaysLit};
+    ghost use Rattle.flash_device.specs.FlashBlocks.{steps_of};
+    ghost use Rattle.flash_device.specs.FlashLogs.{base_in, find, turn_of, words_of};
+    ghost use Rattle.flash_log.specs.Places.{FindsFree, state_of};
+    ghost use Rattle.flash_log.specs.Renewals.{HoldsOnlyPages};
+    ghost use Rattle.flash_log.specs.Rings.{IsRing};
+    ghost use Rattle.sector_log.specs.SectorPlaces.{SectorOpenStopsBy, new_sector_log};
+    ghost use Rattle.sector_log.specs.SectorSpares.{HasRoomForSteps, sector_lead, spare_slot};
+
+    /// The log of a flash that has one.
+    pub fn new(flash: F) -> SectorLog<F>
+        requires ring { IsRing F.SLOTS (F.state flash).words }
+        requires in_step { HasRoomForSteps F.PAGES F.SLOTS F.SECTORS F.sector_start (F.state flash).words 0 }
+        ensures is { result ≡ new_sector_log F.PAGES F.SLOTS (F.state flash) }
+    {
+        SectorLog {
+            flash,
+            place: new_place(),
+        }
+    }
+
+    /// The log of a flash, if it has one in step. It reads all pages.
+    ///
+    /// # Errors
+    /// The flash has no log, or one that isn't in step, power was lost, or the flash failed.
+    pub fn open(flash: F) -> Result<SectorLog<F>, (F, SectorFault)>
+        requires { (F.state flash).dark ≡ false }
+        ensures words { IfOk result (λ l. l.flash.words ≡ words_of F.PAGES F.SLOTS (F.state flash).words) }
+        ensures raw { IfOk result (λ l. l.raw ≡ (F.state flash).words) }
+        // It knows all free slots.
+        ensures free { IfOk result (λ l. FindsFree F.SLOTS (F.state flash).words l.free) }
+        ensures lit { IfOk result (λ l. StaysLit (F.state flash) l.flash) }
+        ensures has_log { IfOk result (λ _. IsRing F.SLOTS (F.state flash).words
+            × HasRoomForSteps F.PAGES F.SLOTS F.SECTORS F.sector_start (F.state flash).words 0) }
+        ensures stopped { IfErr result (λ e. SectorOpenStopsBy F.PAGES F.SLOTS F.SECTORS F.sector_start e.1
+            (F.state flash) (F.state e.0)) }
+        ensures work { IfOk result (λ l. (l.flash.operations ≡ (F.state flash).operations)
+            × (l.flash.erases ≡ (F.state flash).erases)) }
+        ensures stopped_work { IfErr result (λ e. ((F.state e.0).operations ≡ (F.state flash).operations)
+            × ((F.state e.0).erases ≡ (F.state flash).erases)) }
+    {
+        let mut flash = flash;
+        let mut place = new_place();
+        match find_log(&mut flash, &mut place) {
+            Ok(None) => {
+                place.ready = true;
+                Ok(SectorLog { flash, place })
+            }
+            Ok(Some(why)) => Err((flash, why)),
+            Err(DeviceErr::PowerLost) => Err((flash, SectorFault::PowerLost)),
+            Err(DeviceErr::Fault) => Err((flash, SectorFault::Fault)),
+        }
+    }
+
+    /// Gives the flash back, of which a log can be made again.
+    pub fn into_flash(self) -> F
+        ensures is { state_of F.PAGES F.SLOTS (F.state result) ≡ self.flash }
+        ensures ring { IsRing F.SLOTS (F.state result).words }
+        ensures in_step { HasRoomForSteps F.PAGES F.SLOTS F.SECTORS F.sector_start (F.state result).words 0 }
+        ensures raw { (F.state result).words ≡ self.raw }
+    {
+        let SectorLog { flash, place: _ } = self;
+        flash
+    }
+
+    /// Proves that the words are those of a board, 16 a page, and have 32 bits.
+    pub fn words_fit(&self)
+        ensures size { length self.now.flash.words ≡ 16 * F.PAGES }
+        ensures memory { IsMemory self.now.flash.words }
+        ensures fit { AreWords self.now.flash.words }
+    {
+        let _ = &self.flash;
+    }
+
+    /// Reads a word.
+    pub fn read(&mut self, at: u16) -> Result<u32, DeviceErr>
+        requires lit { self.old.flash.dark ≡ false }
+        requires at { at < 16 * F.PAGES }
+        ensures word { IfOk result (λ w. w ≡ slice_index self.old.flash.words at) }
+        ensures words { self.new.flash.words ≡ self.old.flash.words }
+        ensures work { self.new.flash.operations ≡ self.old.flash.operations }
+        ensures erases { self.new.flash.erases ≡ self.old.flash.erases }
+        ensures light { Lights self.old.flash self.new.flash result }
+        ensures raw { self.new.raw ≡ self.old.raw }
+        ensures free { self.old.free ≤ self.new.free }
+        // After the first read behind a power-on, the log knows all free slots.
+        ensures found { OnOk result (self.old.fresh ≡ true → FindsFree F.SLOTS self.old.raw self.new.free) }
+        // If it fails before it knows them, the next read looks for them.
+        ensures looks { self.old.fresh ≡ true
+            → (self.new.fresh ≡ true) ⊎ FindsFree F.SLOTS self.old.raw self.new.free }
+    {
+        read_at(&mut self.flash, &mut self.place, at)
+    }
+
+    /// Writes a run of a page. At every exit all words of the run are old, or all are new.
+    pub fn write(&mut self, page: u16, first: u8, words: &[u32]) -> Result<(), DeviceErr>
+        requires lit { self.old.flash.dark ≡ false }
+        requires page { page < F.PAGES }
+        requires run { first + length words.now ≤ 16 }
+        ensures whole { (self.new.flash.words ≡ self.old.flash.words)
+            ⊎ (self.new.flash.words ≡ written self.old.flash.words (16 * page + first) words.now) }
+        ensures done { OnOk result (self.new.flash.words
+            ≡ written self.old.flash.words (16 * page + first) words.now) }
+        ensures light { Tries TRIES self.old.flash self.new.flash result }
+        // However often power was lost before, a write begins at most 38 programs and erases, one of them an erase of
+        // one sector, whatever it comes to. For each Fault of the flash it begins 40 more, one of them an erase.
+        ensures work { Costs 38 40 self.old.flash self.new.flash }
+        ensures erases { self.new.flash.erases + self.old.flash.faults
+            ≤ self.old.flash.erases + 1 + self.new.flash.faults }
+        // While more free slots are known than a move begins at, and the flash doesn't fail, a write takes one of them,
+        // and erases nothing: no step of a move is due.
+        ensures calm { sector_lead F.SECTORS < self.old.free → self.new.flash.faults ≡ self.old.flash.faults
+            → (self.new.flash.operations ≤ self.old.flash.operations + 2)
+            × (self.new.flash.erases ≡ self.old.flash.erases) }
+        ensures slot { OnOk result (sector_lead F.SECTORS < self.old.free
+            → self.new.flash.faults ≡ self.old.flash.faults → self.new.free + 1 ≡ self.old.free) }
+        // The record is in the last slot that isn't free.
+        ensures last { OnOk result (find self.new.raw (base_in F.SLOTS (turn_of F.SLOTS self.new.raw)) F.SLOTS page
+            ≡ F.SLOTS - self.new.free) }
+        // A move leaves all slots free but those of the sectors that its steps filled, and that of the record.
+        ensures regains { OnOk result (self.new.flash.faults ≡ self.old.flash.faults
+            → 0 < self.old.free → self.old.free < self.new.free
+            → self.new.free + 1 + spare_slot F.SLOTS F.SECTORS F.sector_start (turn_of F.SLOTS self.old.raw)
+            (steps_of F.PAGES) ≡ F.SLOTS) }
+    {
+        write_at(&mut self.flash, &mut self.place, page, first, words)
+    }
+
+    /// Leaves nothing in the flash but the pages as they are: no old words of a page, in no slot. At every exit the
+    /// words of the board are the same. After an error it is to be called again.
+    pub fn renew(&mut self) -> Result<(), DeviceErr>
+        requires { self.old.flash.dark ≡ false }
+        ensures words { self.new.flash.words ≡ self.old.flash.words }
+        ensures only { OnOk result (HoldsOnlyPages F.PAGES F.SLOTS self.new.raw) }
+        ensures light { Tries 1 self.old.flash self.new.flash result }
+        // It ends the move that is under way, moves all pages once more, and erases the area that they leave.
+        ensures work { Costs (2 * F.PAGES + 5 + 2 * F.SECTORS + 36 * (F.SECTORS + 1)) 2 self.old.flash self.new.flash }
+        ensures erases { self.new.flash.erases ≤ self.old.flash.erases + 3 * F.SECTORS + 2 }
+    {
+        renew_at(&mut self.flash, &mut self.place)
+    }
+}
+
+impl<F: FlashSocket + SectorFlash> SectorLog<F> {
+    /// Switches power on. The next call finds the pages again.
+    pub fn light(&mut self)
+        ensures { self.new ≡ record self.old {
+          flash = record self.old.flash { dark = false };
+          fresh = true;
+          free = 0;
+        } }
+    {
+        self.place.ready = false;
+        self.place.tried = 0;
+        self.flash.light();
+    }
+
+    /// Switches power off.
+    pub fn power_off(&mut self)
+        ensures { self.new ≡ record self.old { flash = record self.old.flash { dark = true } } }
+    {
+        self.flash.power_off();
+    }
+}

@@ -1,0 +1,418 @@
+//! The steps of a read and a write.
+ghost use Rattle.std.specs.Prelude.{◌≡◌, ◌≢◌, ◌⊎◌, ◌<◌, ◌≤◌, ◌+◌, ◌-◌, ◌*◌, ℕ, true, false, length, slice_index};
+ghost use Rattle.std.specs.Prelude.{IfOk, OnErr, OnOk};
+ghost use Rattle.nvm_board.specs.History.{written};
+ghost use Rattle.flash_device.specs.FlashBlocks.{steps_of};
+ghost use Rattle.flash_device.specs.FlashCalls.{Costs, Lights, Tries};
+ghost use Rattle.flash_device.specs.FlashLogs.{base_in, find, turn_of, words_of};
+ghost use Rattle.flash_device.specs.PageTables.{IsPageTable};
+ghost use Rattle.flash_log.specs.Paces.{free_slots, is_fresh};
+ghost use Rattle.flash_log.specs.Places.{FindsFree};
+ghost use Rattle.flash_log.specs.Rings.{IsRing};
+ghost use Rattle.sector_log.specs.SectorPlaces.{EndsSectorStep, HasTakenStep, IsSectorLog, IsSectorPlace, KeepsStep};
+ghost use Rattle.sector_log.specs.SectorSpares.{HasMovedSteps, HasRoomForSteps, IsSectorSpare, last_sectors};
+ghost use Rattle.sector_log.specs.SectorSpares.{sector_lead, sector_steps, spare_slot as spare_slot_of};
+ghost use Rattle.sector_log.specs.declared.steps.TheConstants.{TRIES};
+
+use crate::filling::fill_sector;
+use crate::layout::spare_slot;
+use crate::progress::{StepsTaken, find_steps};
+use crate::sector_flash::SectorFlash;
+use flash_area::{first_sector_of_spare, home, older_page, read_page_word, scan};
+use flash_device::{Flash, copy_steps};
+use flash_log::{PageMap, find_turn, pass_turn, pass_witness, write_run};
+use nvm_board::DeviceErr;
+
+/// The number of times that a write is tried, until a Fault of the flash is returned.
+pub const TRIES: u8 = 8;
+
+/// The number of free slots at which a move begins: one for each of its steps.
+pub fn lead<F: SectorFlash>() -> u16
+    ensures { result ≡ sector_lead F.SECTORS }
+{
+    F::SECTORS + 1
+}
+
+/// Finds how far the move has come. While it isn't due, that is not looked for: it has not begun.
+fn steps_at<F: SectorFlash>(
+    flash: &mut F,
+    turn: u8,
+    table: &F::Table,
+    next: u16,
+) -> Result<StepsTaken, DeviceErr>
+    requires lit { (F.state flash.old).dark ≡ false }
+    requires turn { (turn < 3) × (turn ≡ turn_of F.SLOTS (F.state flash.old).words) }
+    requires index { IsPageTable F.PAGES (F.state flash.old).words (base_in F.SLOTS turn) F.SLOTS
+        (F.Table.entries table.now) }
+    requires next { next ≤ F.SLOTS }
+    ensures spare { IfOk result (λ r. IsSectorSpare F.PAGES F.SLOTS F.SECTORS F.sector_start
+        (F.state flash.old).words turn r.erased r.copied r.older) }
+    ensures idle { IfOk result (λ r. 0 < r.copied → F.SLOTS ≤ next + sector_lead F.SECTORS) }
+    ensures room { IfOk result (λ r. (e c o : ℕ) → IsSectorSpare F.PAGES F.SLOTS F.SECTORS F.sector_start
+        (F.state flash.old).words turn e c o → sector_steps F.PAGES F.SECTORS turn e c + next ≤ F.SLOTS
+        → sector_steps F.PAGES F.SECTORS turn r.erased r.copied + next ≤ F.SLOTS) }
+    ensures words { (F.state flash.new).words ≡ (F.state flash.old).words }
+    ensures work { (F.state flash.new).operations ≡ (F.state flash.old).operations }
+    ensures erases { (F.state flash.new).erases ≡ (F.state flash.old).erases }
+    ensures light { Lights (F.state flash.old) (F.state flash.new) result }
+{
+    if F::SLOTS - next > lead::<F>() {
+        return Ok(StepsTaken {
+            erased: 0,
+            copied: 0,
+            older: 0,
+        });
+    }
+    let taken = find_steps(flash, turn, table, next)?;
+    Ok(taken)
+}
+
+/// Finds the pages, and how far the move has come.
+pub fn find_place<F: SectorFlash>(
+    flash: &mut F,
+    place: &mut PageMap<F::Table>,
+) -> Result<(), DeviceErr>
+    requires lit { (F.state flash.old).dark ≡ false }
+    ensures words { (F.state flash.new).words ≡ (F.state flash.old).words }
+    ensures work { (F.state flash.new).operations ≡ (F.state flash.old).operations }
+    ensures erases { (F.state flash.new).erases ≡ (F.state flash.old).erases }
+    ensures same { (place.new.ready ≡ place.old.ready) × (place.new.tried ≡ place.old.tried) }
+    ensures place { OnOk result (IsSectorPlace F.Table.entries F.PAGES F.SLOTS F.SECTORS F.sector_start
+        (F.state flash.old).words place.new) }
+    // If any progress that the flash shows fits, what is found does.
+    ensures keeps { OnOk result (HasRoomForSteps F.PAGES F.SLOTS F.SECTORS F.sector_start (F.state flash.old).words
+        place.old.tried → KeepsStep F.Table.entries F.PAGES F.SLOTS F.SECTORS F.sector_start
+        (F.state flash.old).words place.new) }
+    // If none was tried, all free slots are found.
+    ensures found { OnOk result (place.old.tried ≡ 0
+        → FindsFree F.SLOTS (F.state flash.old).words (F.SLOTS - place.new.next)) }
+    ensures light { Lights (F.state flash.old) (F.state flash.new) result }
+{
+    let turn = find_turn(flash)?;
+    let first = scan(flash, home(turn), &mut place.table)?;
+    let next = first.max(place.tried.min(F::SLOTS));
+    let taken = steps_at(flash, turn, &place.table, next)?;
+    place.turn = turn;
+    place.next = next;
+    place.erased = taken.erased;
+    place.copied = taken.copied;
+    place.older = taken.older;
+    Ok(())
+}
+
+/// Finds the pages, if they are not known.
+pub fn find_pages<F: SectorFlash>(
+    flash: &mut F,
+    place: &mut PageMap<F::Table>,
+) -> Result<(), DeviceErr>
+    requires lit { (F.state flash.old).dark ≡ false }
+    requires log { IsSectorLog F.Table.entries F.PAGES F.SLOTS F.SECTORS F.sector_start (F.state flash.old).words
+        place.old }
+    ensures words { (F.state flash.new).words ≡ (F.state flash.old).words }
+    ensures work { (F.state flash.new).operations ≡ (F.state flash.old).operations }
+    ensures erases { (F.state flash.new).erases ≡ (F.state flash.old).erases }
+    ensures log { IsSectorLog F.Table.entries F.PAGES F.SLOTS F.SECTORS F.sector_start (F.state flash.new).words
+        place.new }
+    ensures ready { OnOk result (place.new.ready ≡ true) }
+    ensures known { place.old.ready ≡ true → (place.new ≡ place.old) × (F.state flash.new ≡ F.state flash.old) }
+    ensures found { OnOk result (is_fresh place.old ≡ true
+        → FindsFree F.SLOTS (F.state flash.old).words (free_slots F.SLOTS place.new)) }
+    ensures unready { OnErr result (is_fresh place.old ≡ true → is_fresh place.new ≡ true) }
+    ensures light { Lights (F.state flash.old) (F.state flash.new) result }
+{
+    if place.ready {
+        return Ok(());
+    }
+    find_place(flash, place)?;
+    place.ready = true;
+    Ok(())
+}
+
+/// Passes the turn to the witness.
+fn pass_on<F: SectorFlash>(flash: &mut F, place: &mut PageMap<F::Table>) -> Result<(), DeviceErr>
+    requires lit { (F.state flash.old).dark ≡ false }
+    requires log { IsSectorLog F.Table.entries F.PAGES F.SLOTS F.SECTORS F.sector_start (F.state flash.old).words
+        place.old }
+    requires ready { place.old.ready ≡ true }
+    requires turn { place.old.turn ≡ 1 }
+    ensures words { words_of F.PAGES F.SLOTS (F.state flash.new).words
+        ≡ words_of F.PAGES F.SLOTS (F.state flash.old).words }
+    ensures log { IsSectorLog F.Table.entries F.PAGES F.SLOTS F.SECTORS F.sector_start (F.state flash.new).words
+        place.new }
+    ensures step { OnOk result (HasTakenStep F.PAGES F.SLOTS F.SECTORS place.new) }
+    ensures ends { OnOk result (EndsSectorStep F.PAGES F.SLOTS F.SECTORS place.old place.new) }
+    ensures next { OnOk result (place.new.next ≡ place.old.next) }
+    ensures light { Tries 1 (F.state flash.old) (F.state flash.new) result }
+    ensures work { Costs 2 2 (F.state flash.old) (F.state flash.new) }
+    ensures erases { (F.state flash.new).erases ≤ (F.state flash.old).erases + 1 }
+{
+    place.ready = false;
+    pass_witness(flash)?;
+    place.turn = 2;
+    place.erased = 0;
+    place.copied = 0;
+    place.older = 0;
+    place.ready = true;
+    Ok(())
+}
+
+/// Erases the next of the last sectors of the other area.
+fn erase_next<F: SectorFlash>(flash: &mut F, place: &mut PageMap<F::Table>) -> Result<(), DeviceErr>
+    requires lit { (F.state flash.old).dark ≡ false }
+    requires log { IsSectorLog F.Table.entries F.PAGES F.SLOTS F.SECTORS F.sector_start (F.state flash.old).words
+        place.old }
+    requires ready { place.old.ready ≡ true }
+    requires moves { (place.old.turn ≢ 1) × (place.old.erased < last_sectors F.PAGES F.SECTORS) }
+    ensures words { words_of F.PAGES F.SLOTS (F.state flash.new).words
+        ≡ words_of F.PAGES F.SLOTS (F.state flash.old).words }
+    ensures log { IsSectorLog F.Table.entries F.PAGES F.SLOTS F.SECTORS F.sector_start (F.state flash.new).words
+        place.new }
+    ensures step { OnOk result (HasTakenStep F.PAGES F.SLOTS F.SECTORS place.new) }
+    ensures ends { OnOk result (EndsSectorStep F.PAGES F.SLOTS F.SECTORS place.old place.new) }
+    ensures next { OnOk result (place.new.next ≡ place.old.next) }
+    ensures light { Tries 1 (F.state flash.old) (F.state flash.new) result }
+    ensures work { Costs 1 2 (F.state flash.old) (F.state flash.new) }
+    ensures erases { (F.state flash.new).erases ≤ (F.state flash.old).erases + 1 }
+{
+    place.ready = false;
+    flash.erase(first_sector_of_spare::<F>(place.turn) + (copy_steps::<F>() + place.erased))?;
+    place.erased += 1;
+    place.ready = true;
+    Ok(())
+}
+
+/// Passes the turn to the other area, which has all pages.
+fn end_move<F: SectorFlash>(flash: &mut F, place: &mut PageMap<F::Table>) -> Result<(), DeviceErr>
+    requires lit { (F.state flash.old).dark ≡ false }
+    requires turn { place.old.turn ≡ turn_of F.SLOTS (F.state flash.old).words }
+    requires moves { (place.old.turn < 3) × (place.old.turn ≢ 1) × IsRing F.SLOTS (F.state flash.old).words }
+    requires unready { place.old.ready ≡ false }
+    requires in_step { HasRoomForSteps F.PAGES F.SLOTS F.SECTORS F.sector_start (F.state flash.old).words 0 }
+    requires pages { HasMovedSteps F.PAGES F.SLOTS F.SECTORS F.sector_start (F.state flash.old).words place.old.turn }
+    ensures words { words_of F.PAGES F.SLOTS (F.state flash.new).words
+        ≡ words_of F.PAGES F.SLOTS (F.state flash.old).words }
+    ensures log { IsSectorLog F.Table.entries F.PAGES F.SLOTS F.SECTORS F.sector_start (F.state flash.new).words
+        place.new }
+    ensures step { OnOk result (HasTakenStep F.PAGES F.SLOTS F.SECTORS place.new) }
+    ensures ends { OnOk result (place.new.next + sector_lead F.SECTORS < F.SLOTS) }
+    ensures next { OnOk result (place.new.next
+        ≡ spare_slot_of F.SLOTS F.SECTORS F.sector_start place.old.turn (steps_of F.PAGES)) }
+    ensures light { Tries 1 (F.state flash.old) (F.state flash.new) result }
+    ensures work { Costs 1 2 (F.state flash.old) (F.state flash.new) }
+    ensures erases { (F.state flash.new).erases ≡ (F.state flash.old).erases }
+{
+    place.behind = spare_slot::<F>(place.turn, copy_steps::<F>());
+    pass_turn(flash, place)
+}
+
+/// Fills the next sector of the other area with copies. Behind the last one it passes the turn.
+fn fill_next<F: SectorFlash>(flash: &mut F, place: &mut PageMap<F::Table>) -> Result<(), DeviceErr>
+    requires lit { (F.state flash.old).dark ≡ false }
+    requires log { IsSectorLog F.Table.entries F.PAGES F.SLOTS F.SECTORS F.sector_start (F.state flash.old).words
+        place.old }
+    requires ready { place.old.ready ≡ true }
+    requires moves { (place.old.turn ≢ 1) × (place.old.erased ≡ last_sectors F.PAGES F.SECTORS) }
+    requires due { F.SLOTS ≤ place.old.next + sector_lead F.SECTORS }
+    ensures words { words_of F.PAGES F.SLOTS (F.state flash.new).words
+        ≡ words_of F.PAGES F.SLOTS (F.state flash.old).words }
+    ensures log { IsSectorLog F.Table.entries F.PAGES F.SLOTS F.SECTORS F.sector_start (F.state flash.new).words
+        place.new }
+    ensures step { OnOk result (HasTakenStep F.PAGES F.SLOTS F.SECTORS place.new) }
+    ensures ends { OnOk result (EndsSectorStep F.PAGES F.SLOTS F.SECTORS place.old place.new) }
+    // The next slot stays, or a move has ended, and all slots behind those of its steps are free.
+    ensures next { OnOk result ((place.new.next ≡ place.old.next) ⊎ (place.new.next
+        ≡ spare_slot_of F.SLOTS F.SECTORS F.sector_start place.old.turn (steps_of F.PAGES))) }
+    ensures light { Tries 1 (F.state flash.old) (F.state flash.new) result }
+    ensures work { Costs 36 2 (F.state flash.old) (F.state flash.new) }
+    ensures erases { (F.state flash.new).erases ≤ (F.state flash.old).erases + 1 }
+{
+    place.ready = false;
+    fill_sector(flash, place.turn, &place.table, place.copied, place.older)?;
+    place.older = 0;
+    place.copied += 1;
+    if place.copied == copy_steps::<F>() {
+        return end_move(flash, place);
+    }
+    place.ready = true;
+    Ok(())
+}
+
+/// Takes a step of the move, if the area in use is nearly full.
+pub fn take_step<F: SectorFlash>(
+    flash: &mut F,
+    place: &mut PageMap<F::Table>,
+) -> Result<(), DeviceErr>
+    requires lit { (F.state flash.old).dark ≡ false }
+    requires log { IsSectorLog F.Table.entries F.PAGES F.SLOTS F.SECTORS F.sector_start (F.state flash.old).words
+        place.old }
+    requires ready { place.old.ready ≡ true }
+    ensures words { words_of F.PAGES F.SLOTS (F.state flash.new).words
+        ≡ words_of F.PAGES F.SLOTS (F.state flash.old).words }
+    ensures log { IsSectorLog F.Table.entries F.PAGES F.SLOTS F.SECTORS F.sector_start (F.state flash.new).words
+        place.new }
+    ensures step { OnOk result (HasTakenStep F.PAGES F.SLOTS F.SECTORS place.new) }
+    ensures ends { OnOk result (EndsSectorStep F.PAGES F.SLOTS F.SECTORS place.old place.new) }
+    ensures idle { place.old.next + sector_lead F.SECTORS < F.SLOTS
+        → (place.new ≡ place.old) × (F.state flash.new ≡ F.state flash.old) }
+    // The next slot stays, or a move has ended, and all slots behind those of its steps are free.
+    ensures next { OnOk result ((place.new.next ≡ place.old.next) ⊎ (place.new.next
+        ≡ spare_slot_of F.SLOTS F.SECTORS F.sector_start place.old.turn (steps_of F.PAGES))) }
+    ensures light { Tries 1 (F.state flash.old) (F.state flash.new) result }
+    ensures work { Costs 36 2 (F.state flash.old) (F.state flash.new) }
+    ensures erases { (F.state flash.new).erases ≤ (F.state flash.old).erases + 1 }
+{
+    if F::SLOTS - place.next > lead::<F>() {
+        return Ok(());
+    }
+    if place.turn == 1 {
+        return pass_on(flash, place);
+    }
+    if place.erased < F::SECTORS - copy_steps::<F>() {
+        return erase_next(flash, place);
+    }
+    fill_next(flash, place)
+}
+
+/// Reads a word of the board.
+pub fn read_at<F: SectorFlash>(
+    flash: &mut F,
+    place: &mut PageMap<F::Table>,
+    at: u16,
+) -> Result<u32, DeviceErr>
+    requires lit { (F.state flash.old).dark ≡ false }
+    requires log { IsSectorLog F.Table.entries F.PAGES F.SLOTS F.SECTORS F.sector_start (F.state flash.old).words
+        place.old }
+    requires at { at < 16 * F.PAGES }
+    ensures word { IfOk result (λ w. w ≡ slice_index (words_of F.PAGES F.SLOTS (F.state flash.old).words) at) }
+    ensures words { (F.state flash.new).words ≡ (F.state flash.old).words }
+    ensures work { (F.state flash.new).operations ≡ (F.state flash.old).operations }
+    ensures erases { (F.state flash.new).erases ≡ (F.state flash.old).erases }
+    ensures log { IsSectorLog F.Table.entries F.PAGES F.SLOTS F.SECTORS F.sector_start (F.state flash.new).words
+        place.new }
+    ensures known { place.old.ready ≡ true → place.new ≡ place.old }
+    ensures found { OnOk result (is_fresh place.old ≡ true
+        → FindsFree F.SLOTS (F.state flash.old).words (free_slots F.SLOTS place.new)) }
+    ensures looks { is_fresh place.old ≡ true → (is_fresh place.new ≡ true)
+        ⊎ FindsFree F.SLOTS (F.state flash.old).words (free_slots F.SLOTS place.new) }
+    ensures light { Lights (F.state flash.old) (F.state flash.new) result }
+{
+    find_pages(flash, place)?;
+    let word = read_page_word(flash, home(place.turn), &place.table, at / 16, at % 16)?;
+    Ok(word)
+}
+
+/// Writes a run of a page, or fails once. At every exit all words of the run are old, or all are new.
+fn write_once<F: SectorFlash>(
+    flash: &mut F,
+    place: &mut PageMap<F::Table>,
+    page: u16,
+    first: u8,
+    words: &[u32],
+) -> Result<(), DeviceErr>
+    requires lit { (F.state flash.old).dark ≡ false }
+    requires log { IsSectorLog F.Table.entries F.PAGES F.SLOTS F.SECTORS F.sector_start (F.state flash.old).words
+        place.old }
+    requires page { page < F.PAGES }
+    requires run { first + length words.now ≤ 16 }
+    ensures whole { (words_of F.PAGES F.SLOTS (F.state flash.new).words
+        ≡ words_of F.PAGES F.SLOTS (F.state flash.old).words)
+        ⊎ (words_of F.PAGES F.SLOTS (F.state flash.new).words
+        ≡ written (words_of F.PAGES F.SLOTS (F.state flash.old).words) (16 * page + first) words.now) }
+    ensures done { OnOk result (words_of F.PAGES F.SLOTS (F.state flash.new).words
+        ≡ written (words_of F.PAGES F.SLOTS (F.state flash.old).words) (16 * page + first) words.now) }
+    ensures log { IsSectorLog F.Table.entries F.PAGES F.SLOTS F.SECTORS F.sector_start (F.state flash.new).words
+        place.new }
+    // With more free slots than a move begins at, no step is due: a record is programmed, and its mark.
+    ensures calm { sector_lead F.SECTORS < free_slots F.SLOTS place.old
+        → (F.state flash.new).faults ≡ (F.state flash.old).faults
+        → ((F.state flash.new).operations ≤ (F.state flash.old).operations + 2)
+        × ((F.state flash.new).erases ≡ (F.state flash.old).erases) }
+    ensures slot { OnOk result (sector_lead F.SECTORS < free_slots F.SLOTS place.old
+        → (F.state flash.new).faults ≡ (F.state flash.old).faults
+        → free_slots F.SLOTS place.new + 1 ≡ free_slots F.SLOTS place.old) }
+    // The record is in the last slot that isn't free.
+    ensures last { OnOk result (find (F.state flash.new).words
+        (base_in F.SLOTS (turn_of F.SLOTS (F.state flash.new).words)) F.SLOTS page
+        ≡ F.SLOTS - free_slots F.SLOTS place.new) }
+    // A write behind which more slots are free than before has ended a move.
+    ensures regains { OnOk result ((F.state flash.new).faults ≡ (F.state flash.old).faults
+        → 0 < free_slots F.SLOTS place.old → free_slots F.SLOTS place.old < free_slots F.SLOTS place.new
+        → free_slots F.SLOTS place.new + 1 + spare_slot_of F.SLOTS F.SECTORS F.sector_start
+        (turn_of F.SLOTS (F.state flash.old).words) (steps_of F.PAGES) ≡ F.SLOTS) }
+    ensures light { Tries 1 (F.state flash.old) (F.state flash.new) result }
+    ensures work { Costs 38 2 (F.state flash.old) (F.state flash.new) }
+    ensures erases { (F.state flash.new).erases ≤ (F.state flash.old).erases + 1 }
+{
+    find_pages(flash, place)?;
+    take_step(flash, place)?;
+    place.ready = false;
+    place.tried = place.next + 1;
+    write_run(
+        flash,
+        home(place.turn),
+        &mut place.table,
+        place.next,
+        page,
+        first,
+        words,
+    )?;
+    place.next += 1;
+    place.older = older_page(page, place.copied);
+    place.ready = true;
+    Ok(())
+}
+
+/// Writes a run of a page. At every exit all words of the run are old, or all are new. A Fault of the flash is returned
+/// only if as many tries failed: where they looked for the pages, in a step of a move, or at the record. The tries
+/// behind a record that failed pass over its slot, until the turn fails to pass.
+pub fn write_at<F: SectorFlash>(
+    flash: &mut F,
+    place: &mut PageMap<F::Table>,
+    page: u16,
+    first: u8,
+    words: &[u32],
+) -> Result<(), DeviceErr>
+    requires lit { (F.state flash.old).dark ≡ false }
+    requires log { IsSectorLog F.Table.entries F.PAGES F.SLOTS F.SECTORS F.sector_start (F.state flash.old).words
+        place.old }
+    requires page { page < F.PAGES }
+    requires run { first + length words.now ≤ 16 }
+    ensures whole { (words_of F.PAGES F.SLOTS (F.state flash.new).words
+        ≡ words_of F.PAGES F.SLOTS (F.state flash.old).words)
+        ⊎ (words_of F.PAGES F.SLOTS (F.state flash.new).words
+        ≡ written (words_of F.PAGES F.SLOTS (F.state flash.old).words) (16 * page + first) words.now) }
+    ensures done { OnOk result (words_of F.PAGES F.SLOTS (F.state flash.new).words
+        ≡ written (words_of F.PAGES F.SLOTS (F.state flash.old).words) (16 * page + first) words.now) }
+    ensures log { IsSectorLog F.Table.entries F.PAGES F.SLOTS F.SECTORS F.sector_start (F.state flash.new).words
+        place.new }
+    // With more free slots than a move begins at, no step is due: a record is programmed, and its mark.
+    ensures calm { sector_lead F.SECTORS < free_slots F.SLOTS place.old
+        → (F.state flash.new).faults ≡ (F.state flash.old).faults
+        → ((F.state flash.new).operations ≤ (F.state flash.old).operations + 2)
+        × ((F.state flash.new).erases ≡ (F.state flash.old).erases) }
+    ensures slot { OnOk result (sector_lead F.SECTORS < free_slots F.SLOTS place.old
+        → (F.state flash.new).faults ≡ (F.state flash.old).faults
+        → free_slots F.SLOTS place.new + 1 ≡ free_slots F.SLOTS place.old) }
+    // The record is in the last slot that isn't free.
+    ensures last { OnOk result (find (F.state flash.new).words
+        (base_in F.SLOTS (turn_of F.SLOTS (F.state flash.new).words)) F.SLOTS page
+        ≡ F.SLOTS - free_slots F.SLOTS place.new) }
+    // A write behind which more slots are free than before has ended a move.
+    ensures regains { OnOk result ((F.state flash.new).faults ≡ (F.state flash.old).faults
+        → 0 < free_slots F.SLOTS place.old → free_slots F.SLOTS place.old < free_slots F.SLOTS place.new
+        → free_slots F.SLOTS place.new + 1 + spare_slot_of F.SLOTS F.SECTORS F.sector_start
+        (turn_of F.SLOTS (F.state flash.old).words) (steps_of F.PAGES) ≡ F.SLOTS) }
+    ensures light { Tries TRIES (F.state flash.old) (F.state flash.new) result }
+    ensures work { Costs 38 40 (F.state flash.old) (F.state flash.new) }
+    ensures erases { (F.state flash.new).erases + (F.state flash.old).faults
+        ≤ (F.state flash.old).erases + 1 + (F.state flash.new).faults }
+{
+    for _ in 1..TRIES {
+        match write_once(flash, place, page, first, words) {
+            Ok(()) => return Ok(()),
+            Err(DeviceErr::PowerLost) => return Err(DeviceErr::PowerLost),
+            Err(DeviceErr::Fault) => {}
+        }
+    }
+    write_once(flash, place, page, first, words)
+}
