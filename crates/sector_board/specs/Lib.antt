@@ -1,0 +1,2 @@
+pub mod SectorFacts
+pub mod laws
