@@ -4,8 +4,10 @@
 
 mod playing;
 mod playing_on_flash;
+mod playing_on_sectors;
 mod powered;
 
 pub use playing::Bench;
 pub use playing_on_flash::play_on_flash;
+pub use playing_on_sectors::play_on_sectors;
 pub use powered::Powered;
