@@ -17,11 +17,11 @@ const WRITES: u32 = 400;
 
 /// Random numbers.
 #[derive(Drop)]
-struct Random(u64);
+pub struct Random(pub u64);
 
 impl Random {
     /// Returns a number below `end`.
-    fn below(&mut self, end: u32) -> u32
+    pub fn below(&mut self, end: u32) -> u32
         requires { 0 < end }
         ensures { result < end }
     {

@@ -1,4 +1,5 @@
-//! Tests of the board on a flash that leaves garbage, and of chips with program units or worn sectors.
+//! Tests of the board on a flash that leaves garbage, of the log of small sectors and its board, and of chips with
+//! program units or worn sectors.
 #![tactic(auto)]
 
 #[cfg(test)]
@@ -7,6 +8,8 @@ mod arrays;
 mod many_pages;
 #[cfg(test)]
 mod renewals;
+#[cfg(test)]
+mod sector_sessions;
 #[cfg(test)]
 mod sessions;
 #[cfg(test)]

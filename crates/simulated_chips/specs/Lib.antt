@@ -5,5 +5,7 @@ pub mod SimSpareStates
 pub mod SimSpareUnitStates
 pub mod SimStates
 pub mod SimUnitStates
+pub mod SmallSectorParts
+pub mod SmallStates
 pub mod WideSectorParts
 pub mod WideStates

@@ -1,11 +1,12 @@
 //! Chips that are simulated in working memory, for tests: flashes that leave garbage where they lose power or fail,
-//! with program units, with spare sectors, with both, and with 4,096 pages.
+//! with program units, with spare sectors, with both, with small sectors, and with 4,096 pages.
 #![tactic(auto)]
 
 mod sim_flash;
 mod sim_spare_units;
 mod sim_spares;
 mod sim_units;
+mod small_sectors;
 mod unit_sizes;
 mod wide_flash;
 
@@ -13,5 +14,6 @@ pub use sim_flash::SimFlash;
 pub use sim_spare_units::SimSpareUnits;
 pub use sim_spares::SimSpares;
 pub use sim_units::SimUnits;
+pub use small_sectors::SmallSectorFlash;
 pub use unit_sizes::{Eight, Four, One, Two, UnitSize};
 pub use wide_flash::WideFlash;
