@@ -135,6 +135,31 @@ SPARE_UNITS = Layer(BOTH, Path(__file__).with_name("spare_unit_files"), 19, SPAR
 # the layer of a flash that has units or not, and spare sectors or not
 LAYERS: dict[tuple[bool, bool], Layer | None] = {
     (False, False): None, (True, False): UNITS, (False, True): SPARES, (True, True): SPARE_UNITS}
+# small sectors, of which each step of a move has one: the flash says so, and the card has the board for it
+SMALL_FILES = Path(__file__).with_name("small_files")
+OWN_ON_SMALL = {
+    "device_flash": "nvm_board flash_device flash_area sector_log",
+    "card_device staticlib": f"{OWN_ON_FLASH['card_device staticlib']} sector_log sector_board",
+}
+SMALL_BOARD = {"use flash_board::FlashBoard;": "use sector_board::SectorBoard as FlashBoard;"}
+SMALL_TEXTS = {
+    "crates/device_flash/src/lib.rt": {"mod slots;": "mod slots;\nmod small;"},
+    "crates/device_flash/specs/Lib.antt": {"pub mod DeviceSectors": "pub mod DeviceSectors\npub mod SmallSectors"},
+    "crates/card_device/src/board.rt": SMALL_BOARD | {
+        "use flash_log::{FlashFault, FlashLog};":
+        "use sector_log::{SectorFault as FlashFault, SectorLog as FlashLog};",
+        "FlashFault::NoLog => 7,": "FlashFault::NoLog => 7,\n        FlashFault::OutOfStep => 9,",
+        "flash_board.specs.FlashFacts.{flash_facts}": "sector_board.specs.SectorFacts.{sector_facts as flash_facts}",
+        "flash_board.specs.laws.Boards.{flash_is_board}":
+        "sector_board.specs.laws.SectorBoards.{sector_is_board as flash_is_board}",
+    },
+    "crates/card_device/src/making.rt": SMALL_BOARD | {
+        "use flash_log::{FlashLog, format_flash};":
+        "use sector_log::{SectorLog as FlashLog, format_sectors as format_flash};",
+    },
+    # (a flash of another log may have no slot for each step that is left)
+    HEADER: {"CARD_TOO_LARGE = 8": "CARD_TOO_LARGE = 8,\n    CARD_OUT_OF_STEP = 9"},
+}
 # what is as in a port over a board, by its place
 SHARED = {
     f"crates/device_flash/{it}": FILES / "crates/device_board" / it
@@ -157,9 +182,9 @@ def files_of(folder: Path) -> dict[str, Path]:
     return {str(it.relative_to(folder)): it for it in sorted(folder.rglob("*")) if it.is_file()}
 
 
-def take_texts(folder: Path, layer: Layer) -> None:
-    """Gives a port the texts and the header of a layer."""
-    for place, changes in layer.texts().items():
+def take_texts(folder: Path, texts: dict[str, dict[str, str]]) -> None:
+    """Gives a port the texts of a layer, or of small sectors."""
+    for place, changes in texts.items():
         text = (folder / place).read_text(encoding="utf-8")
         for old, new in changes.items():
             assert text.count(old) == 1, old
@@ -179,19 +204,22 @@ def own_files(layer: Layer | None) -> dict[str, Path]:
 
 def fill(
     folder: Path, pages: int | None = None, slots: int | None = None, sector_words: int | None = None,
-    unit: int | None = None, spares: int | None = None,
+    unit: int | None = None, spares: int | None = None, small: bool = False,
 ) -> None:
     """Puts the files of a port into an empty folder, with other sizes of the flash and its board if given, and with
-    program units of so many words, and so many spare sectors, if it has such."""
+    program units of so many words, so many spare sectors, or small sectors, if it has such."""
     layer = LAYERS[bool(unit), bool(spares)]
-    copy_crates(folder, layer.own() if layer else OWN_ON_FLASH)
+    copy_crates(folder, OWN_ON_SMALL if small else layer.own() if layer else OWN_ON_FLASH)
     placed = {f"device/{name}": path for name, path in code().items()} | {it: TOP / it for it in LICENSES}
-    for place, path in (placed | own_files(layer) | SHARED).items():
+    own = own_files(layer) | (files_of(SMALL_FILES) if small else {})
+    for place, path in (placed | own | SHARED).items():
         target = folder / place.removesuffix(SUFFIX)
         target.parent.mkdir(parents=True, exist_ok=True)
         shutil.copyfile(path, target)
     if layer:
-        take_texts(folder, layer)
+        take_texts(folder, layer.texts())
+    if small:
+        take_texts(folder, SMALL_TEXTS)
     sizes = ((PAGES, pages), (SLOTS, slots), (SECTOR_WORDS, sector_words), (UNIT, unit), (SPARE_SECTORS, spares))
     for size, given in sizes:
         if given:

@@ -103,6 +103,35 @@ def least_in_pace(pages: int, slots: int, sectors: Callable[[int], int]) -> int:
     return slots
 
 
+def are_small(pages: int, slots: int, sector_words: int) -> bool:
+    """Whether an area of so many slots has small sectors: one for each step of a move and at least one more, and behind
+    those of the steps a slot for each step of the next move, and one more (docs/FLASH.md, "Small sectors")."""
+    steps, sectors = pages // STEP_PAGES, sectors_of(slots, sector_words)
+    first = -(-sector_words * steps // SLOT_WORDS)
+    return sectors > steps and slots > first + sectors + 1 and slots >= pages + SPARE_SLOTS + sectors
+
+
+def least_small(pages: int, sector_words: int) -> int:
+    """The least number of slots of an area with small sectors."""
+    slots = pages + SPARE_SLOTS
+    while not are_small(pages, slots, sector_words):
+        slots += 1
+    return slots
+
+
+def why_not_small(pages: int, slots: int, sector_words: int) -> str | None:
+    """Why an area has no small sectors, if so. A step puts up to 17 records into its sector, and slots may straddle its
+    ends."""
+    least_words = SLOT_WORDS * (STEP_PAGES + 2)
+    if sector_words < least_words:
+        return f"--sector-words {sector_words}: small sectors have at least {least_words} words"
+    if sector_words * (pages // STEP_PAGES) > MOST_SLOTS * SLOT_WORDS:
+        return f"--sector-words {sector_words}: an area of {pages:,} pages has too many slots for small sectors"
+    if slots < (least := least_small(pages, sector_words)):
+        return f"with small sectors of {sector_words:,} words an area has at least {least:,} slots"
+    return None
+
+
 def why_spares_unfit(slots: int, sector_words: int, spares: int, unit: int | None = None) -> str | None:
     """Why a flash can't have so many spare sectors of this size, if so. Sectors have numbers of 16 bits. The words
     and those of the map behind them are numbers of the header, which have 31."""

@@ -28,11 +28,14 @@ INCLUDED = tuple(f"-I{it}" for it in (PROGRAMS, FLASH_EXAMPLE, EXAMPLE))
 CHECKED = ("-fsanitize=address,undefined", "-fno-sanitize-recover=all")
 # the ports that the tests build cards of, by what writes them: words of a unit, and spare sectors
 UNIT_WORDS, SPARES = 4, 6
+# small sectors of 2 KiB, of which an area has eight behind those of the steps
+SMALL_SLOTS, SMALL_WORDS = 1843, 512
 FILLS: dict[str, Callable[[Path], None]] = {
     "flash": over_flash.fill,
     "units": partial(over_flash.fill, unit=UNIT_WORDS),
     "spares": partial(over_flash.fill, spares=SPARES),
     "spare-units": partial(over_flash.fill, unit=UNIT_WORDS, spares=SPARES),
+    "small": partial(over_flash.fill, slots=SMALL_SLOTS, sector_words=SMALL_WORDS, small=True),
 }
 
 

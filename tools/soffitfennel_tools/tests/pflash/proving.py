@@ -14,13 +14,16 @@ from ...porting.writing import write_port
 from ..chip.proving import checked
 from .building import Room
 
-BELOW = ("nvm_board", "flash_device", "program_units", "spare_sectors")
+BELOW = (
+    "nvm_board", "flash_device", "program_units", "spare_sectors", "flash_area", "flash_log", "sector_log",
+)
 # what is asked of tools/port, and how many functions are proved then
 FLASHES: dict[str, tuple[dict[str, int], int]] = {
     "the flash of a port": ({}, 15),
     "one that programs whole units": ({"unit": 4}, 17),
     "one with spare sectors": ({"spares": 3, "sector_words": 4096}, 19),
     "one with both": ({"unit": 2, "spares": 3, "sector_words": 4096}, 19),
+    "one of small sectors": ({"slots": 1708, "sector_words": 512, "small": True}, 15),
 }
 
 
@@ -29,7 +32,7 @@ def take_libraries(port: Path) -> Path:
     for name in BELOW:
         built, crate = TOP / "crates" / name / "out", port / "crates" / name
         if built.is_dir() and crate.is_dir():
-            shutil.copytree(built, crate / "out")
+            shutil.copytree(built, crate / "out", ignore=shutil.ignore_patterns("incremental"))
     return port / "crates" / FLASH
 
 

@@ -1,0 +1,79 @@
+"""A card over a flash with small sectors, of which each step of a move has one: it prints what the bench prints."""
+from __future__ import annotations
+
+import os
+import shutil
+import subprocess
+from concurrent.futures import ThreadPoolExecutor
+
+from ...porting.slots import PAGES, SECTOR_WORDS, SLOTS
+from ...porting.writing import write_port
+from ..chip.building import lacks
+from ..chip.units import PORT, tool
+from .building import FILLS, HOST, Room, library, made
+from .scripts import by_bench, on_card, uncut
+
+
+def room_of_small(room: Room) -> Room:
+    """A room whose port is over such a flash."""
+    folder = room.folder / "small-sectors"
+    folder.mkdir()
+    write_port(folder / "port", FILLS["small"])
+    shutil.copyfile(room.folder / "factory.card", folder / "factory.card")
+    return Room(folder, room.checks, room.bench)
+
+
+def compare_port(room: Room) -> None:
+    """tools/port writes such a port, with the numbers that were asked for, and with the board for it."""
+    port = room.folder / "small-port"
+    words: list[object] = ["--flash", "--small-sectors", "--pages", 1536, "--slots", 2600, "--sector-words", 400]
+    ran = tool(PORT, *words, port)
+    room.checks.same((ran.returncode, ran.stdout, ran.stderr), (0, f"{port}\n", ""), "tools/port --small-sectors")
+    for size, wanted in ((PAGES, ["1536"]), (SLOTS, ["2600"]), (SECTOR_WORDS, ["400"])):
+        for place, number in size.places.items():
+            found = number.findall((port / place).read_text(encoding="utf-8"))
+            room.checks.same(found, wanted, f"the {size.what} in {place}")
+    room.checks.same([str(it) for it in port.rglob("*.in")], [], "no template is left")
+    board = (port / "crates/card_device/src/board.rt").read_text(encoding="utf-8")
+    room.checks.check("SectorBoard" in board and "flash_board::" not in board, "the board for small sectors", board)
+
+
+def compare_mistakes(room: Room) -> None:
+    """What it refuses. By hand: 1,024 pages take 64 steps, whose sectors of 512 words have 1,638 slots and a part. With
+    1,707 slots an area has 67 sectors, and 1,639 + 67 + 1 slots aren't below 1,707; with 1,708 they are."""
+    cases: tuple[tuple[list[object], str], ...] = (
+        (["--small-sectors"], "give --flash too"),
+        (["--flash", "--small-sectors", "--unit", 4], "neither --unit nor --spares"),
+        (["--flash", "--small-sectors", "--spares", 4], "neither --unit nor --spares"),
+        (["--flash", "--small-sectors"], "too many slots"),
+        (["--flash", "--small-sectors", "--sector-words", 359], "at least 360 words"),
+        (["--flash", "--small-sectors", "--sector-words", 512], "at least 1,708 slots"),
+        (["--flash", "--small-sectors", "--sector-words", 512, "--slots", 1707], "at least 1,708 slots"),
+    )
+    for words, why in cases:
+        ran = tool(PORT, *words, room.folder / "new")
+        lines = ran.stderr.splitlines()
+        is_so = ran.returncode == 2 and len(lines) == 1 and why in lines[0]
+        room.checks.check(is_so, f"tools/port {words}", ran.stderr)
+    least = room.folder / "least-port"
+    ran = tool(PORT, "--flash", "--small-sectors", "--sector-words", 512, "--slots", 1708, least)
+    room.checks.same((ran.returncode, ran.stdout, ran.stderr), (0, f"{least}\n", ""), "the least slots")
+
+
+def compare(room: Room) -> None:
+    """The port; the duties of its functions; and the stored scripts on the card."""
+    compare_port(room)
+    compare_mistakes(room)
+    if missing := lacks(HOST):
+        room.checks.skip("the card over small sectors", f"{missing} isn't installed")
+        return
+    small = room_of_small(room)
+    out, _ = library(small, HOST.name)
+    duties = made(small, HOST.name, out, "flash.c", "duties")
+    tried = subprocess.run([duties], capture_output=True, text=True, check=False)
+    room.checks.check(tried.stdout.endswith(" passed, 0 failed\n"), "the duties over small sectors", tried.stdout)
+    program, scripts = made(small, HOST.name, out, "flash.c", "card"), uncut()
+    with ThreadPoolExecutor(os.cpu_count()) as pool:
+        ran = list(pool.map(lambda it: on_card(HOST, program, it)[0], scripts.values()))
+    for (name, lines), printed in zip(scripts.items(), ran):
+        room.checks.same(printed, by_bench(room, lines), f"{name} over small sectors")
