@@ -28,10 +28,11 @@ def write(path: Path, content: str | bytes) -> None:
 
 def put_in_place(path: Path, data: bytes) -> None:
     """Writes a file under a name that nobody knows, and then gives it its own. One that is there keeps its mode, and
-    stays where it may not be written."""
+    stays where it may not be written. Nobody may read the new one who may not read the old one."""
     fresh = path.with_name(f".output.{secrets.token_hex(8)}")
     try:
-        with open(fresh, "xb") as file:
+        mode = path.stat().st_mode & 0o777 if path.exists() else 0o666
+        with open(os.open(fresh, os.O_WRONLY | os.O_CREAT | os.O_EXCL, mode), "wb") as file:
             file.write(data)
         if path.exists():
             os.close(os.open(path, os.O_WRONLY))
