@@ -129,6 +129,8 @@ pub fn pass_turn<F: Flash>(flash: &mut F, place: &mut PageMap<F::Table>) -> Resu
         (F.state flash.new).words }
     ensures light { Tries 1 (F.state flash.old) (F.state flash.new) result }
     ensures work { Costs 1 2 (F.state flash.old) (F.state flash.new) }
+    // However often the flash fails, it begins one program.
+    ensures most { (F.state flash.new).operations ≤ (F.state flash.old).operations + 1 }
     ensures erases { (F.state flash.new).erases ≡ (F.state flash.old).erases }
 {
     let next = spare(place.turn);
