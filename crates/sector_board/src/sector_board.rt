@@ -1,6 +1,7 @@
 //! The board on a flash with small sectors.
 ghost use Rattle.std.specs.Prelude.{◌≡◌, ◌+◌, ◌-◌, ◌*◌, ◌<◌, ◌≤◌, ◌↔◌, ◌⊎◌, if◌then◌else◌, true, false, length};
-ghost use Rattle.std.specs.Prelude.{All, IfOk, IsErr, IsTrue, OnErr, OnOk, slice_index};
+ghost use Rattle.std.specs.Prelude.{All, IfOk, IsErr, IsErrOf, IsTrue, OnErr, OnOk, slice_index};
+ghost use Rattle.nvm_board.specs.declared.board.DeviceErr.TheVariants as DeviceErr;
 ghost use Rattle.nvm_board.specs.declared.board.TheConstants.{SECRETS, COUNT_END};
 ghost use Rattle.nvm_board.specs.Facts.{AreWords, IsMemory};
 
@@ -178,6 +179,7 @@ impl<F: SectorFlash> Board for SectorBoard<F> {
     ghost use Rattle.sector_board.specs.SectorFacts.{sector_facts, sector_state};
     ghost use Rattle.sector_board.specs.laws.SectorBoards.{sector_is_board};
     ghost use Rattle.sector_log.specs.SectorSpares.{sector_lead, spare_slot};
+    ghost use Rattle.sector_log.specs.declared.steps.TheConstants.{TRIES};
 
     ghost facts = { sector_facts };
 
@@ -223,11 +225,16 @@ impl<F: SectorFlash> Board for SectorBoard<F> {
     fn write(&mut self, page: u16, first: u8, words: &[u32]) -> Result<(), DeviceErr>
         requires { FitsPage page first words.now (sector_facts self.old) }
         ensures writes { Writes (address page first) words.now (sector_facts self.old) (sector_facts self.new) result }
-        // However often power was lost before, a write begins at most 38 programs and erases, one of them an erase of
-        // one sector, and for each Fault of the flash 40 more, one of them an erase.
-        ensures work { Costs 38 40 (sector_state self.old).flash (sector_state self.new).flash }
-        ensures erases { (sector_state self.new).flash.erases + (sector_state self.old).flash.faults
-            ≤ (sector_state self.old).flash.erases + 1 + (sector_state self.new).flash.faults }
+        // However often power was lost before and the flash fails, a write begins at most 64 programs and erases, one
+        // of them an erase of one sector. Without a Fault it begins at most 38, and for each two more.
+        ensures most { (sector_state self.new).flash.operations ≤ (sector_state self.old).flash.operations + 64 }
+        ensures work { Costs 38 2 (sector_state self.old).flash (sector_state self.new).flash }
+        ensures erases { (sector_state self.new).flash.erases ≤ (sector_state self.old).flash.erases + 1 }
+        // While more free slots are known than a move begins at, it fails only if as many tries did. Each passed over
+        // its slot.
+        ensures tries { IsErrOf result DeviceErr.Fault → sector_lead F.SECTORS < (sector_state self.old).free
+            → ((sector_state self.old).flash.faults + TRIES ≤ (sector_state self.new).flash.faults)
+            × ((sector_state self.new).free + TRIES ≤ (sector_state self.old).free) }
         // While more free slots are known than a move begins at, and the flash doesn't fail, a write takes one of them,
         // and erases nothing: no step of a move is due.
         ensures calm { sector_lead F.SECTORS < (sector_state self.old).free

@@ -67,6 +67,13 @@ pub record HasTakenStep {T : Type 0} (pages slots sectors : ℕ) (p : PageMap T)
   pub older : p.older ≡ 0
   pub room : place_steps pages sectors p + p.next < slots
 
+-- The log stays in step behind a record of a page: a slot is free beside those of the steps that are left, and no copy
+-- but that of this page may be older.
+pub record StaysInStep {T : Type 0} (pages slots sectors page : ℕ) (p : PageMap T) : Type 0 where
+  pub ready : p.ready ≡ true
+  pub room : place_steps pages sectors p + p.next < slots
+  pub older : (p.older ≡ 0) ⊎ (p.older ≡ page + 1)
+
 -- A step is taken: one less is left, or more slots are free than a move begins at.
 pub record EndsSectorStep {T : Type 0} (pages slots sectors : ℕ) (p q : PageMap T) : Type 0 where
   pub fewer : ((place_steps pages sectors q + 1 ≤ place_steps pages sectors p) × (q.next ≡ p.next))

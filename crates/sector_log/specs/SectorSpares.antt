@@ -3,10 +3,11 @@ use Rattle.std.specs.Prelude.{◌≡◌, ◌≢◌, ◌<◌, ◌≤◌, ◌+◌,
 use Rattle.flash_device.specs.declared.flash.TheConstants.{BLANK}
 use Rattle.flash_device.specs.declared.layout.TheConstants.{STEP_PAGES}
 use Rattle.flash_device.specs.FlashBlocks.{steps_of}
-use Rattle.flash_device.specs.FlashCalls.{AreFilled}
+use Rattle.flash_device.specs.FlashCalls.{AreFilled, FlashState}
 use Rattle.flash_device.specs.FlashLogs.{base_in, find, page_word, turn_of, words_of}
 use Rattle.flash_device.specs.PageTables.{AreFree}
 use Rattle.flash_area.specs.Spares.{spare_in, spare_sector}
+use Rattle.sector_log.specs.declared.steps.TheConstants.{TRIES}
 
 -- the number of slots of an area that end where a sector begins, or before
 abbrev pub slots_before : (ℕ → ℕ) → ℕ → ℕ → ℕ
@@ -63,9 +64,9 @@ abbrev pub sector_steps : ℕ → ℕ → ℕ → ℕ → ℕ → ℕ
 sector_steps pages sectors turn erased copied =
     (if nat_eq turn 1 then 1 else 0) + (last_sectors pages sectors - erased) + (steps_of pages - copied)
 
--- the number of free slots at which a move begins: one for each step
+-- the number of free slots at which a move begins: one for each step, and those of the tries of a write that may fail
 abbrev pub sector_lead : ℕ → ℕ
-sector_lead sectors = sectors + 1
+sector_lead sectors = sectors + 1 + TRIES
 
 -- By what the flash holds, the area in use has a free slot for each step that is left of the move, behind those that
 -- writes have tried.
@@ -78,6 +79,10 @@ pub record HasRoomForSteps (pages slots sectors : ℕ) (start : ℕ → ℕ) (m 
   pub free : AreFree m (base_in slots (turn_of slots m)) next slots
   pub room : sector_steps pages sectors (turn_of slots m) erased copied + next ≤ slots
   pub passed : tried ≤ next
+
+-- At most two programs are begun for each slot from one to another: of its record, and of its mark.
+abbrev pub SpendsSlots : ℕ → ℕ → FlashState → FlashState → Type 0
+SpendsSlots from to old new = new.operations + 2 * from ≤ old.operations + 2 * to
 
 -- A page is put into an area, by its slots below one: there it reads as in the area in use. All other pages are as
 -- before, and from a slot on all are free.

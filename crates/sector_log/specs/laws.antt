@@ -5,3 +5,4 @@ pub mod SectorRenewal
 pub mod Sizing
 pub mod Stepping
 pub mod Tracing
+pub mod Trying

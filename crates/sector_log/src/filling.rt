@@ -9,13 +9,17 @@ ghost use Rattle.flash_device.specs.declared.layout.TheConstants.{STEP_PAGES};
 ghost use Rattle.flash_area.specs.PageCopies.{KeepsOthers};
 ghost use Rattle.flash_area.specs.Spares.{spare_in, spare_sector};
 ghost use Rattle.flash_log.specs.Rings.{IsRing};
-ghost use Rattle.sector_log.specs.SectorSpares.{HasSectorCopies, HasStepCopies, PutsPage};
+ghost use Rattle.sector_log.specs.SectorSpares.{HasSectorCopies, HasStepCopies, PutsPage, SpendsSlots};
+ghost use Rattle.sector_log.specs.declared.filling.TheConstants.{STEP_SLOTS};
 
 use crate::layout::{spare_slot, spare_slots};
 use crate::sector_flash::SectorFlash;
 use flash_area::{Record, first_sector_of_spare, home, program_record, record_of, spare};
 use flash_device::{Flash, PageTable, STEP_PAGES, slot_at};
 use nvm_board::DeviceErr;
+
+/// The most slots that a step takes in its sector, for the copies of up to 17 pages. The others are those that fail.
+pub const STEP_SLOTS: u16 = 23;
 
 /// Puts a record into the first slot from `next` on that takes it, below `end`. A slot that fails is passed over.
 fn put_in_sector<F: Flash>(
@@ -38,6 +42,8 @@ fn put_in_sector<F: Flash>(
         (F.state flash.new).words (s + 1)) }
     ensures light { Tries 1 (F.state flash.old) (F.state flash.new) result }
     ensures work { Costs 2 2 (F.state flash.old) (F.state flash.new) }
+    ensures spends { IfOk result (λ s. SpendsSlots next (s + 1) (F.state flash.old) (F.state flash.new)) }
+    ensures within { SpendsSlots next end (F.state flash.old) (F.state flash.new) }
     ensures erases { (F.state flash.new).erases ≡ (F.state flash.old).erases }
 {
     for slot in next..end {
@@ -74,6 +80,8 @@ fn put_page<F: Flash>(
         (F.state flash.new).words n) }
     ensures light { Tries 1 (F.state flash.old) (F.state flash.new) result }
     ensures work { Costs 2 2 (F.state flash.old) (F.state flash.new) }
+    ensures spends { IfOk result (λ n. SpendsSlots next n (F.state flash.old) (F.state flash.new)) }
+    ensures within { SpendsSlots next end (F.state flash.old) (F.state flash.new) }
     ensures erases { (F.state flash.new).erases ≡ (F.state flash.old).erases }
 {
     let found = record_of(flash, home(turn), table, page)?;
@@ -111,6 +119,8 @@ fn put_older<F: Flash>(
         (spare_in F.SLOTS turn) below copied 0) }
     ensures light { Tries 1 (F.state flash.old) (F.state flash.new) result }
     ensures work { Costs 2 2 (F.state flash.old) (F.state flash.new) }
+    ensures spends { IfOk result (λ n. SpendsSlots next n (F.state flash.old) (F.state flash.new)) }
+    ensures within { SpendsSlots next end (F.state flash.old) (F.state flash.new) }
     ensures erases { (F.state flash.new).erases ≡ (F.state flash.old).erases }
 {
     if older == 0 {
@@ -151,6 +161,8 @@ fn copy_page<F: Flash>(
         (spare_in F.SLOTS turn) below (page + 1) 0) }
     ensures light { Tries 1 (F.state flash.old) (F.state flash.new) result }
     ensures work { Costs 2 2 (F.state flash.old) (F.state flash.new) }
+    ensures spends { IfOk result (λ n. SpendsSlots next n (F.state flash.old) (F.state flash.new)) }
+    ensures within { SpendsSlots next end (F.state flash.old) (F.state flash.new) }
     ensures erases { (F.state flash.new).erases ≡ (F.state flash.old).erases }
 {
     if table.entry(page) == 0 {
@@ -177,13 +189,16 @@ fn copy_pages<F: Flash>(
         × IsPageTable F.PAGES (F.state flash.old).words (base_in F.SLOTS turn) F.SLOTS (F.Table.entries table.now) }
     ensures elsewhere { SameElsewhere (F.state flash.old).words (slot_of (spare_in F.SLOTS turn) next)
         (20 * (end - next)) (F.state flash.new).words }
-    ensures copies { OnOk result ((words : List ℕ) → words ≡ words_of F.PAGES F.SLOTS (F.state flash.old).words
+    ensures copies { OnOk result ((below : ℕ) (words : List ℕ) → end ≤ below
+        → words ≡ words_of F.PAGES F.SLOTS (F.state flash.old).words
+        → AreFree (F.state flash.old).words (spare_in F.SLOTS turn) next below
         → HasSectorCopies F.PAGES F.SLOTS (F.state flash.old).words words (base_in F.SLOTS turn)
-        (spare_in F.SLOTS turn) end first 0
+        (spare_in F.SLOTS turn) below first 0
         → HasSectorCopies F.PAGES F.SLOTS (F.state flash.new).words words (base_in F.SLOTS turn)
-        (spare_in F.SLOTS turn) end (first + STEP_PAGES) 0) }
+        (spare_in F.SLOTS turn) below (first + STEP_PAGES) 0) }
     ensures light { Tries 1 (F.state flash.old) (F.state flash.new) result }
     ensures work { Costs 32 2 (F.state flash.old) (F.state flash.new) }
+    ensures within { SpendsSlots next end (F.state flash.old) (F.state flash.new) }
     ensures erases { (F.state flash.new).erases ≡ (F.state flash.old).erases }
 {
     let mut free = next;
@@ -201,7 +216,8 @@ fn copy_pages<F: Flash>(
 }
 
 /// Takes a step that copies pages: erases its sector of the other area, copies the page there whose copy may be older,
-/// and the pages of the step. At every exit no other word of the flash has changed, so it can be taken again.
+/// and the pages of the step. Of the slots that it takes, those that fail are passed over. At every exit no other word
+/// of the flash has changed, so it can be taken again.
 pub fn fill_sector<F: SectorFlash>(
     flash: &mut F,
     turn: u8,
@@ -224,11 +240,13 @@ pub fn fill_sector<F: SectorFlash>(
         → HasStepCopies F.PAGES F.SLOTS F.SECTORS F.sector_start (F.state flash.new).words turn (step + 1) 0) }
     ensures light { Tries 1 (F.state flash.old) (F.state flash.new) result }
     ensures work { Costs 35 2 (F.state flash.old) (F.state flash.new) }
+    // However often the flash fails, it erases the sector, and programs two times for each of these slots.
+    ensures most { (F.state flash.new).operations ≤ (F.state flash.old).operations + 1 + 2 * STEP_SLOTS }
     ensures erases { (F.state flash.new).erases ≤ (F.state flash.old).erases + 1 }
 {
     flash.erase(first_sector_of_spare::<F>(turn) + step)?;
-    let end = spare_slots::<F>(turn, step + 1);
     let first = spare_slot::<F>(turn, step);
+    let end = spare_slots::<F>(turn, step + 1).min(first + STEP_SLOTS);
     let next = put_older(flash, turn, table, first, end - STEP_PAGES, older)?;
     copy_pages(flash, turn, table, next, end, STEP_PAGES * step)
 }

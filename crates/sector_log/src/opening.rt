@@ -10,8 +10,8 @@ ghost use Rattle.sector_log.specs.SectorSpares.{HasRoomForSteps, last_sectors};
 ghost use Rattle.flash_device.specs.FlashBlocks.{steps_of};
 
 use crate::sector_flash::SectorFlash;
-use crate::steps::find_place;
-use flash_device::{Flash, PageTable, copy_steps};
+use crate::steps::{find_place, steps_left};
+use flash_device::{Flash, PageTable};
 use flash_log::{PageMap, format_flash, has_ring};
 use nvm_board::DeviceErr;
 
@@ -52,11 +52,7 @@ fn has_room<F: SectorFlash>(place: &PageMap<F::Table>) -> bool
     ensures yes { result ≡ true → place_steps F.PAGES F.SECTORS place.now + place.now.next ≤ F.SLOTS }
     ensures no { result ≡ false → F.SLOTS < place_steps F.PAGES F.SECTORS place.now + place.now.next }
 {
-    let first = if place.turn == 1 { 1 } else { 0 };
-    let sectors = F::SECTORS - copy_steps::<F>() - place.erased;
-    let steps = copy_steps::<F>() - place.copied;
-    let free = F::SLOTS.saturating_sub(place.next);
-    first + u32::from(sectors) + u32::from(steps) <= u32::from(free)
+    steps_left::<F>(place) <= F::SLOTS.saturating_sub(place.next)
 }
 
 /// Looks for a log in step. Returns why the words of the flash are not taken, if so.

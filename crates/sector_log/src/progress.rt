@@ -10,12 +10,17 @@ ghost use Rattle.flash_device.specs.declared.layout.TheConstants.{STEP_PAGES};
 ghost use Rattle.flash_area.specs.Spares.{spare_in};
 ghost use Rattle.sector_log.specs.SectorSpares.{HasStepCopies, IsSectorSpare, ReadsAsCopy, last_sectors, last_start};
 ghost use Rattle.sector_log.specs.SectorSpares.{sector_steps};
+ghost use Rattle.sector_log.specs.declared.progress.TheConstants.{NEAR_STEPS};
 
 use crate::layout::spare_slots;
 use crate::sector_flash::SectorFlash;
+use crate::steps::TRIES;
 use flash_area::{first_sector_of_spare, home, read_page_word, scan_slot, spare};
 use flash_device::{BLANK, Flash, PageTable, STEP_PAGES, copy_steps, slot_at};
 use nvm_board::DeviceErr;
+
+/// The numbers of steps near the least one: so many more steps as a write has tries may have been taken, and one.
+const NEAR_STEPS: u16 = TRIES as u16 + 2;
 
 /// How far a move has come.
 #[derive(Clone, Copy)]
@@ -240,8 +245,93 @@ fn copies_of<F: SectorFlash>(
     Ok(older)
 }
 
-/// Finds steps that have copied pages, where all last sectors of the other area are erased: so many, or the first
-/// number above that the flash shows. If it shows none, no step has.
+/// Returns how far the move has come, by the last number of steps near the least one that the flash shows, or nothing
+/// if it shows none.
+fn near_copies<F: SectorFlash>(
+    flash: &mut F,
+    turn: u8,
+    table: &F::Table,
+    least: u16,
+) -> Result<Option<StepsTaken>, DeviceErr>
+    requires lit { (F.state flash.old).dark ≡ false }
+    requires turn { (turn < 3) × (turn ≢ 1) × (turn ≡ turn_of F.SLOTS (F.state flash.old).words) }
+    requires home { IsPageTable F.PAGES (F.state flash.old).words (base_in F.SLOTS turn) F.SLOTS
+        (F.Table.entries table.now) }
+    ensures erased { IfOk result (λ o. IfSome o (λ r. r.erased ≡ last_sectors F.PAGES F.SECTORS)) }
+    ensures most { IfOk result (λ o. IfSome o (λ r. (r.copied < steps_of F.PAGES)
+        × (r.older ≤ STEP_PAGES * r.copied))) }
+    ensures copies { IfOk result (λ o. IfSome o (λ r. HasStepCopies F.PAGES F.SLOTS F.SECTORS F.sector_start
+        (F.state flash.old).words turn r.copied r.older)) }
+    ensures near { IfOk result (λ o. IfSome o (λ r. (least ≤ r.copied) × (r.copied < least + NEAR_STEPS))) }
+    ensures last { IfOk result (λ o. IfSome o (λ r. (c older : ℕ) → r.copied < c → c < least + NEAR_STEPS
+        → c < steps_of F.PAGES → ¬ HasStepCopies F.PAGES F.SLOTS F.SECTORS F.sector_start
+        (F.state flash.old).words turn c older)) }
+    ensures none { IfOk result (λ o. IfNone o ((c older : ℕ) → least ≤ c → c < least + NEAR_STEPS
+        → c < steps_of F.PAGES → ¬ HasStepCopies F.PAGES F.SLOTS F.SECTORS F.sector_start
+        (F.state flash.old).words turn c older)) }
+    ensures words { (F.state flash.new).words ≡ (F.state flash.old).words }
+    ensures work { (F.state flash.new).operations ≡ (F.state flash.old).operations }
+    ensures erases { (F.state flash.new).erases ≡ (F.state flash.old).erases }
+    ensures light { Lights (F.state flash.old) (F.state flash.new) result }
+{
+    let steps = copy_steps::<F>();
+    let end = steps.min(least.saturating_add(NEAR_STEPS));
+    for k in 0..end.saturating_sub(least) {
+        let copied = end - 1 - k;
+        if let Some(older) = copies_of(flash, turn, table, copied)? {
+            return Ok(Some(StepsTaken {
+                erased: F::SECTORS - steps,
+                copied,
+                older,
+            }));
+        }
+    }
+    Ok(None)
+}
+
+/// Returns how far the move has come, by the first number of steps from one on that the flash shows, or nothing if it
+/// shows none.
+fn first_copies<F: SectorFlash>(
+    flash: &mut F,
+    turn: u8,
+    table: &F::Table,
+    from: u16,
+) -> Result<Option<StepsTaken>, DeviceErr>
+    requires lit { (F.state flash.old).dark ≡ false }
+    requires turn { (turn < 3) × (turn ≢ 1) × (turn ≡ turn_of F.SLOTS (F.state flash.old).words) }
+    requires home { IsPageTable F.PAGES (F.state flash.old).words (base_in F.SLOTS turn) F.SLOTS
+        (F.Table.entries table.now) }
+    ensures erased { IfOk result (λ o. IfSome o (λ r. r.erased ≡ last_sectors F.PAGES F.SECTORS)) }
+    ensures most { IfOk result (λ o. IfSome o (λ r. (r.copied < steps_of F.PAGES)
+        × (r.older ≤ STEP_PAGES * r.copied))) }
+    ensures copies { IfOk result (λ o. IfSome o (λ r. HasStepCopies F.PAGES F.SLOTS F.SECTORS F.sector_start
+        (F.state flash.old).words turn r.copied r.older)) }
+    ensures from { IfOk result (λ o. IfSome o (λ r. from ≤ r.copied)) }
+    ensures first { IfOk result (λ o. IfSome o (λ r. (c older : ℕ) → from ≤ c → c < r.copied
+        → ¬ HasStepCopies F.PAGES F.SLOTS F.SECTORS F.sector_start (F.state flash.old).words turn c older)) }
+    ensures none { IfOk result (λ o. IfNone o ((c older : ℕ) → from ≤ c → c < steps_of F.PAGES
+        → ¬ HasStepCopies F.PAGES F.SLOTS F.SECTORS F.sector_start (F.state flash.old).words turn c older)) }
+    ensures words { (F.state flash.new).words ≡ (F.state flash.old).words }
+    ensures work { (F.state flash.new).operations ≡ (F.state flash.old).operations }
+    ensures erases { (F.state flash.new).erases ≡ (F.state flash.old).erases }
+    ensures light { Lights (F.state flash.old) (F.state flash.new) result }
+{
+    let steps = copy_steps::<F>();
+    for copied in from..steps {
+        if let Some(older) = copies_of(flash, turn, table, copied)? {
+            return Ok(Some(StepsTaken {
+                erased: F::SECTORS - steps,
+                copied,
+                older,
+            }));
+        }
+    }
+    Ok(None)
+}
+
+/// Finds steps that have copied pages, where all last sectors of the other area are erased: the last number near the
+/// least one that the flash shows, since more steps leave more slots to the tries of a write, or else the first number
+/// above. If it shows none, no step has.
 fn find_copies<F: SectorFlash>(
     flash: &mut F,
     turn: u8,
@@ -263,19 +353,14 @@ fn find_copies<F: SectorFlash>(
     ensures erases { (F.state flash.new).erases ≡ (F.state flash.old).erases }
     ensures light { Lights (F.state flash.old) (F.state flash.new) result }
 {
-    let steps = copy_steps::<F>();
-    let erased = F::SECTORS - steps;
-    for copied in least..steps {
-        if let Some(older) = copies_of(flash, turn, table, copied)? {
-            return Ok(StepsTaken {
-                erased,
-                copied,
-                older,
-            });
-        }
+    if let Some(near) = near_copies(flash, turn, table, least)? {
+        return Ok(near);
+    }
+    if let Some(above) = first_copies(flash, turn, table, least.saturating_add(NEAR_STEPS))? {
+        return Ok(above);
     }
     Ok(StepsTaken {
-        erased,
+        erased: F::SECTORS - copy_steps::<F>(),
         copied: 0,
         older: 0,
     })

@@ -7,7 +7,7 @@ ghost use Rattle.sector_log.specs.SectorPlaces.{IsSectorLog};
 ghost use Rattle.sector_log.specs.SectorSpares.{sector_lead};
 
 use crate::sector_flash::SectorFlash;
-use crate::steps::{find_pages, lead, take_step};
+use crate::steps::{find_pages, take_step};
 use flash_log::{PageMap, leave_area};
 use nvm_board::DeviceErr;
 
@@ -27,7 +27,7 @@ fn end_steps<F: SectorFlash>(flash: &mut F, place: &mut PageMap<F::Table>) -> Re
     ensures erases { (F.state flash.new).erases ≤ (F.state flash.old).erases + F.SECTORS + 1 }
 {
     find_pages(flash, place)?;
-    for _ in 0..lead::<F>() {
+    for _ in 0..F::SECTORS + 1 {
         take_step(flash, place)?;
     }
     Ok(())

@@ -3,7 +3,7 @@ ghost use Rattle.std.specs.Prelude.{◌<◌, ◌≤◌, ◌+◌, ◌*◌, ℕ};
 ghost use Rattle.flash_device.specs.FlashBlocks.{steps_of};
 ghost use Rattle.flash_device.specs.declared.layout.TheConstants.{SPARES, STEP_PAGES};
 ghost use Rattle.flash_area.specs.Spares.{spare_sector};
-ghost use Rattle.sector_log.specs.SectorSpares.{spare_slot};
+ghost use Rattle.sector_log.specs.SectorSpares.{sector_lead, spare_slot};
 
 use flash_device::Flash;
 
@@ -18,11 +18,11 @@ pub trait SectorFlash: Flash {
         → Self.sector_start (spare_sector Self.SECTORS turn + n) + 20 * (STEP_PAGES + 2)
         ≤ Self.sector_start (spare_sector Self.SECTORS turn + (n + 1)) };
 
-    /// Behind the sectors of the steps, an area has a slot for each step of the next move, and one more.
+    /// Behind the sectors of the steps, an area has more slots than the next move begins at.
     ghost slots_left: { (turn : ℕ)
-        → spare_slot Self.SLOTS Self.SECTORS Self.sector_start turn (steps_of Self.PAGES) + (Self.SECTORS + 1)
+        → spare_slot Self.SLOTS Self.SECTORS Self.sector_start turn (steps_of Self.PAGES) + sector_lead Self.SECTORS
         < Self.SLOTS };
 
-    /// Behind the slots that a renewal may take for its copies, an area has a slot for each step of the next move.
-    ghost copies_left: { Self.PAGES + SPARES + (Self.SECTORS + 1) ≤ Self.SLOTS };
+    /// Behind the slots that a renewal may take for its copies, an area has those that the next move begins at.
+    ghost copies_left: { Self.PAGES + SPARES + sector_lead Self.SECTORS ≤ Self.SLOTS };
 }

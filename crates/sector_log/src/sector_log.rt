@@ -1,6 +1,7 @@
 //! The log of a flash with small sectors as one value: the words that it stands for, and its power.
 ghost use Rattle.std.specs.Prelude.{◌≡◌, ◌⊎◌, ◌<◌, ◌≤◌, ◌+◌, ◌-◌, ◌*◌, ℕ, true, false, length, slice_index};
-ghost use Rattle.std.specs.Prelude.{IfErr, IfOk, OnOk};
+ghost use Rattle.std.specs.Prelude.{IfErr, IfOk, IsErrOf, OnOk};
+ghost use Rattle.nvm_board.specs.declared.board.DeviceErr.TheVariants as DeviceErr;
 ghost use Rattle.nvm_board.specs.Facts.{AreWords, IsMemory};
 ghost use Rattle.nvm_board.specs.History.{written};
 ghost use Rattle.flash_device.specs.FlashCalls.{Costs, Lights, Tries};
@@ -137,12 +138,17 @@ impl<F: SectorFlash> SectorLog<F> {
             ⊎ (self.new.flash.words ≡ written self.old.flash.words (16 * page + first) words.now) }
         ensures done { OnOk result (self.new.flash.words
             ≡ written self.old.flash.words (16 * page + first) words.now) }
-        ensures light { Tries TRIES self.old.flash self.new.flash result }
-        // However often power was lost before, a write begins at most 38 programs and erases, one of them an erase of
-        // one sector, whatever it comes to. For each Fault of the flash it begins 40 more, one of them an erase.
-        ensures work { Costs 38 40 self.old.flash self.new.flash }
-        ensures erases { self.new.flash.erases + self.old.flash.faults
-            ≤ self.old.flash.erases + 1 + self.new.flash.faults }
+        // However often power was lost before and the flash fails, a write begins at most 64 programs and erases, one
+        // of them an erase of one sector. Without a Fault it begins at most 38, and for each two more.
+        ensures most { self.new.flash.operations ≤ self.old.flash.operations + 64 }
+        ensures work { Costs 38 2 self.old.flash self.new.flash }
+        ensures erases { self.new.flash.erases ≤ self.old.flash.erases + 1 }
+        ensures light { Tries 1 self.old.flash self.new.flash result }
+        // While more free slots are known than a move begins at, it fails only if as many tries did. Each passed over
+        // its slot.
+        ensures tries { sector_lead F.SECTORS < self.old.free → Tries TRIES self.old.flash self.new.flash result }
+        ensures gives_up { IsErrOf result DeviceErr.Fault → sector_lead F.SECTORS < self.old.free
+            → self.new.free + TRIES ≤ self.old.free }
         // While more free slots are known than a move begins at, and the flash doesn't fail, a write takes one of them,
         // and erases nothing: no step of a move is due.
         ensures calm { sector_lead F.SECTORS < self.old.free → self.new.flash.faults ≡ self.old.flash.faults

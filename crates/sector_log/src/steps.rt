@@ -1,6 +1,6 @@
 //! The steps of a read and a write.
 ghost use Rattle.std.specs.Prelude.{◌≡◌, ◌≢◌, ◌⊎◌, ◌<◌, ◌≤◌, ◌+◌, ◌-◌, ◌*◌, ℕ, true, false, length, slice_index};
-ghost use Rattle.std.specs.Prelude.{IfOk, OnErr, OnOk};
+ghost use Rattle.std.specs.Prelude.{IfOk, IsErrOf, OnErr, OnOk};
 ghost use Rattle.nvm_board.specs.History.{written};
 ghost use Rattle.flash_device.specs.FlashBlocks.{steps_of};
 ghost use Rattle.flash_device.specs.FlashCalls.{Costs, Lights, Tries};
@@ -9,7 +9,9 @@ ghost use Rattle.flash_device.specs.PageTables.{IsPageTable};
 ghost use Rattle.flash_log.specs.Paces.{free_slots, is_fresh};
 ghost use Rattle.flash_log.specs.Places.{FindsFree};
 ghost use Rattle.flash_log.specs.Rings.{IsRing};
+ghost use Rattle.nvm_board.specs.declared.board.DeviceErr.TheVariants as DeviceErr;
 ghost use Rattle.sector_log.specs.SectorPlaces.{EndsSectorStep, HasTakenStep, IsSectorLog, IsSectorPlace, KeepsStep};
+ghost use Rattle.sector_log.specs.SectorPlaces.{StaysInStep, place_steps};
 ghost use Rattle.sector_log.specs.SectorSpares.{HasMovedSteps, HasRoomForSteps, IsSectorSpare, last_sectors};
 ghost use Rattle.sector_log.specs.SectorSpares.{sector_lead, sector_steps, spare_slot as spare_slot_of};
 ghost use Rattle.sector_log.specs.declared.steps.TheConstants.{TRIES};
@@ -26,11 +28,22 @@ use nvm_board::DeviceErr;
 /// The number of times that a write is tried, until a Fault of the flash is returned.
 pub const TRIES: u8 = 8;
 
-/// The number of free slots at which a move begins: one for each of its steps.
+/// The number of free slots at which a move begins: one for each of its steps, and those of the tries of a write that
+/// may fail.
 pub fn lead<F: SectorFlash>() -> u16
     ensures { result ≡ sector_lead F.SECTORS }
 {
-    F::SECTORS + 1
+    F::SECTORS + 1 + u16::from(TRIES)
+}
+
+/// The steps that are left of a move.
+pub fn steps_left<F: SectorFlash>(place: &PageMap<F::Table>) -> u16
+    requires fits { (place.now.erased ≤ last_sectors F.PAGES F.SECTORS) × (place.now.copied < steps_of F.PAGES) }
+    ensures { result ≡ place_steps F.PAGES F.SECTORS place.now }
+{
+    let first = if place.turn == 1 { 1 } else { 0 };
+    let sectors = F::SECTORS - copy_steps::<F>() - place.erased;
+    first + sectors + (copy_steps::<F>() - place.copied)
 }
 
 /// Finds how far the move has come. While it isn't due, that is not looked for: it has not begun.
@@ -144,6 +157,7 @@ fn pass_on<F: SectorFlash>(flash: &mut F, place: &mut PageMap<F::Table>) -> Resu
     ensures next { OnOk result (place.new.next ≡ place.old.next) }
     ensures light { Tries 1 (F.state flash.old) (F.state flash.new) result }
     ensures work { Costs 2 2 (F.state flash.old) (F.state flash.new) }
+    ensures most { (F.state flash.new).operations ≤ (F.state flash.old).operations + 2 }
     ensures erases { (F.state flash.new).erases ≤ (F.state flash.old).erases + 1 }
 {
     place.ready = false;
@@ -172,6 +186,7 @@ fn erase_next<F: SectorFlash>(flash: &mut F, place: &mut PageMap<F::Table>) -> R
     ensures next { OnOk result (place.new.next ≡ place.old.next) }
     ensures light { Tries 1 (F.state flash.old) (F.state flash.new) result }
     ensures work { Costs 1 2 (F.state flash.old) (F.state flash.new) }
+    ensures most { (F.state flash.new).operations ≤ (F.state flash.old).operations + 1 }
     ensures erases { (F.state flash.new).erases ≤ (F.state flash.old).erases + 1 }
 {
     place.ready = false;
@@ -199,6 +214,7 @@ fn end_move<F: SectorFlash>(flash: &mut F, place: &mut PageMap<F::Table>) -> Res
         ≡ spare_slot_of F.SLOTS F.SECTORS F.sector_start place.old.turn (steps_of F.PAGES)) }
     ensures light { Tries 1 (F.state flash.old) (F.state flash.new) result }
     ensures work { Costs 1 2 (F.state flash.old) (F.state flash.new) }
+    ensures most { (F.state flash.new).operations ≤ (F.state flash.old).operations + 1 }
     ensures erases { (F.state flash.new).erases ≡ (F.state flash.old).erases }
 {
     place.behind = spare_slot::<F>(place.turn, copy_steps::<F>());
@@ -224,6 +240,7 @@ fn fill_next<F: SectorFlash>(flash: &mut F, place: &mut PageMap<F::Table>) -> Re
         ≡ spare_slot_of F.SLOTS F.SECTORS F.sector_start place.old.turn (steps_of F.PAGES))) }
     ensures light { Tries 1 (F.state flash.old) (F.state flash.new) result }
     ensures work { Costs 36 2 (F.state flash.old) (F.state flash.new) }
+    ensures most { (F.state flash.new).operations ≤ (F.state flash.old).operations + 48 }
     ensures erases { (F.state flash.new).erases ≤ (F.state flash.old).erases + 1 }
 {
     place.ready = false;
@@ -259,6 +276,8 @@ pub fn take_step<F: SectorFlash>(
         ≡ spare_slot_of F.SLOTS F.SECTORS F.sector_start place.old.turn (steps_of F.PAGES))) }
     ensures light { Tries 1 (F.state flash.old) (F.state flash.new) result }
     ensures work { Costs 36 2 (F.state flash.old) (F.state flash.new) }
+    // However often the flash fails, it erases one sector, and programs 47 times.
+    ensures most { (F.state flash.new).operations ≤ (F.state flash.old).operations + 48 }
     ensures erases { (F.state flash.new).erases ≤ (F.state flash.old).erases + 1 }
 {
     if F::SLOTS - place.next > lead::<F>() {
@@ -301,7 +320,70 @@ pub fn read_at<F: SectorFlash>(
     Ok(word)
 }
 
-/// Writes a run of a page, or fails once. At every exit all words of the run are old, or all are new.
+/// Finds the pages, if they are not known. A Fault of the flash is returned only if as many tries failed.
+fn look<F: SectorFlash>(flash: &mut F, place: &mut PageMap<F::Table>) -> Result<(), DeviceErr>
+    requires lit { (F.state flash.old).dark ≡ false }
+    requires log { IsSectorLog F.Table.entries F.PAGES F.SLOTS F.SECTORS F.sector_start (F.state flash.old).words
+        place.old }
+    ensures words { (F.state flash.new).words ≡ (F.state flash.old).words }
+    ensures work { (F.state flash.new).operations ≡ (F.state flash.old).operations }
+    ensures erases { (F.state flash.new).erases ≡ (F.state flash.old).erases }
+    ensures log { IsSectorLog F.Table.entries F.PAGES F.SLOTS F.SECTORS F.sector_start (F.state flash.new).words
+        place.new }
+    ensures ready { OnOk result (place.new.ready ≡ true) }
+    ensures known { place.old.ready ≡ true → (place.new ≡ place.old) × (F.state flash.new ≡ F.state flash.old) }
+    ensures light { Tries TRIES (F.state flash.old) (F.state flash.new) result }
+{
+    for _ in 1..TRIES {
+        match find_pages(flash, place) {
+            Err(DeviceErr::Fault) => {}
+            ended => return ended,
+        }
+    }
+    find_pages(flash, place)
+}
+
+/// Reads the area in use again, behind a record that failed. A Fault of the flash is returned only if as many tries
+/// failed.
+fn scan_again<F: SectorFlash>(
+    flash: &mut F,
+    area: u8,
+    table: &mut F::Table,
+) -> Result<(), DeviceErr>
+    requires lit { (F.state flash.old).dark ≡ false }
+    requires area { area < 2 }
+    ensures index { OnOk result (IsPageTable F.PAGES (F.state flash.new).words (base_in F.SLOTS area) F.SLOTS
+        (F.Table.entries table.new)) }
+    ensures words { (F.state flash.new).words ≡ (F.state flash.old).words }
+    ensures work { (F.state flash.new).operations ≡ (F.state flash.old).operations }
+    ensures erases { (F.state flash.new).erases ≡ (F.state flash.old).erases }
+    ensures light { Tries TRIES (F.state flash.old) (F.state flash.new) result }
+{
+    for _ in 1..TRIES {
+        match scan(flash, area, table) {
+            Err(DeviceErr::Fault) => {}
+            Err(DeviceErr::PowerLost) => return Err(DeviceErr::PowerLost),
+            Ok(_) => return Ok(()),
+        }
+    }
+    scan(flash, area, table)?;
+    Ok(())
+}
+
+/// Returns true if a slot is free beside those of the steps that are left, and the place is known.
+fn has_slot<F: SectorFlash>(place: &PageMap<F::Table>) -> bool
+    requires fits { place.now.ready ≡ true → (place.now.erased ≤ last_sectors F.PAGES F.SECTORS)
+        × (place.now.copied < steps_of F.PAGES) × (place.now.next ≤ F.SLOTS) }
+    ensures yes { result ≡ true → (place.now.ready ≡ true)
+        × (place_steps F.PAGES F.SECTORS place.now + place.now.next < F.SLOTS) }
+    ensures no { result ≡ false → place.now.ready ≡ true
+        → F.SLOTS ≤ place_steps F.PAGES F.SECTORS place.now + place.now.next }
+{
+    place.ready && steps_left::<F>(place) < F::SLOTS - place.next
+}
+
+/// Puts a record of a page into the next slot. At every exit all words of the run are old, or all are new. If that
+/// fails, the slot is passed over, and the pages are known again.
 fn write_once<F: SectorFlash>(
     flash: &mut F,
     place: &mut PageMap<F::Table>,
@@ -312,6 +394,7 @@ fn write_once<F: SectorFlash>(
     requires lit { (F.state flash.old).dark ≡ false }
     requires log { IsSectorLog F.Table.entries F.PAGES F.SLOTS F.SECTORS F.sector_start (F.state flash.old).words
         place.old }
+    requires takes { StaysInStep F.PAGES F.SLOTS F.SECTORS page place.old }
     requires page { page < F.PAGES }
     requires run { first + length words.now ≤ 16 }
     ensures whole { (words_of F.PAGES F.SLOTS (F.state flash.new).words
@@ -322,32 +405,27 @@ fn write_once<F: SectorFlash>(
         ≡ written (words_of F.PAGES F.SLOTS (F.state flash.old).words) (16 * page + first) words.now) }
     ensures log { IsSectorLog F.Table.entries F.PAGES F.SLOTS F.SECTORS F.sector_start (F.state flash.new).words
         place.new }
-    // With more free slots than a move begins at, no step is due: a record is programmed, and its mark.
-    ensures calm { sector_lead F.SECTORS < free_slots F.SLOTS place.old
-        → (F.state flash.new).faults ≡ (F.state flash.old).faults
-        → ((F.state flash.new).operations ≤ (F.state flash.old).operations + 2)
-        × ((F.state flash.new).erases ≡ (F.state flash.old).erases) }
-    ensures slot { OnOk result (sector_lead F.SECTORS < free_slots F.SLOTS place.old
-        → (F.state flash.new).faults ≡ (F.state flash.old).faults
-        → free_slots F.SLOTS place.new + 1 ≡ free_slots F.SLOTS place.old) }
+    ensures ready { OnOk result (place.new.ready ≡ true) }
+    // At every exit the slot is passed over.
+    ensures gives_up { place.new.tried ≡ place.old.next + 1 }
+    ensures next { place.new.ready ≡ true → (place.new.next ≡ place.old.next + 1) × (place.new.turn ≡ place.old.turn)
+        × (place_steps F.PAGES F.SECTORS place.new ≡ place_steps F.PAGES F.SECTORS place.old)
+        × ((place.new.older ≡ 0) ⊎ (place.new.older ≡ page + 1)) }
+    // If it fails, and the pages are not known again, many more calls failed.
+    ensures unread { IsErrOf result DeviceErr.Fault → place.new.ready ≡ false
+        → (F.state flash.old).faults + TRIES ≤ (F.state flash.new).faults }
     // The record is in the last slot that isn't free.
     ensures last { OnOk result (find (F.state flash.new).words
         (base_in F.SLOTS (turn_of F.SLOTS (F.state flash.new).words)) F.SLOTS page
         ≡ F.SLOTS - free_slots F.SLOTS place.new) }
-    // A write behind which more slots are free than before has ended a move.
-    ensures regains { OnOk result ((F.state flash.new).faults ≡ (F.state flash.old).faults
-        → 0 < free_slots F.SLOTS place.old → free_slots F.SLOTS place.old < free_slots F.SLOTS place.new
-        → free_slots F.SLOTS place.new + 1 + spare_slot_of F.SLOTS F.SECTORS F.sector_start
-        (turn_of F.SLOTS (F.state flash.old).words) (steps_of F.PAGES) ≡ F.SLOTS) }
     ensures light { Tries 1 (F.state flash.old) (F.state flash.new) result }
-    ensures work { Costs 38 2 (F.state flash.old) (F.state flash.new) }
-    ensures erases { (F.state flash.new).erases ≤ (F.state flash.old).erases + 1 }
+    ensures work { (F.state flash.new).operations ≤ (F.state flash.old).operations + 2 }
+    ensures erases { (F.state flash.new).erases ≡ (F.state flash.old).erases }
 {
-    find_pages(flash, place)?;
-    take_step(flash, place)?;
+    let older = older_page(page, place.copied);
     place.ready = false;
     place.tried = place.next + 1;
-    write_run(
+    let ended = write_run(
         flash,
         home(place.turn),
         &mut place.table,
@@ -355,16 +433,27 @@ fn write_once<F: SectorFlash>(
         page,
         first,
         words,
-    )?;
+    );
+    match ended {
+        Ok(()) => {}
+        Err(DeviceErr::PowerLost) => return Err(DeviceErr::PowerLost),
+        Err(DeviceErr::Fault) => {
+            scan_again(flash, home(place.turn), &mut place.table)?;
+            place.next += 1;
+            place.older = older;
+            place.ready = true;
+            return Err(DeviceErr::Fault);
+        }
+    }
     place.next += 1;
-    place.older = older_page(page, place.copied);
+    place.older = older;
     place.ready = true;
     Ok(())
 }
 
-/// Writes a run of a page. At every exit all words of the run are old, or all are new. A Fault of the flash is returned
-/// only if as many tries failed: where they looked for the pages, in a step of a move, or at the record. The tries
-/// behind a record that failed pass over its slot, until the turn fails to pass.
+/// Writes a run of a page. At every exit all words of the run are old, or all are new. If a step of a move is due it is
+/// taken once, so at most one sector is erased. The tries behind a record that failed pass over its slot, as long as a
+/// slot is free beside those of the steps.
 pub fn write_at<F: SectorFlash>(
     flash: &mut F,
     place: &mut PageMap<F::Table>,
@@ -402,16 +491,27 @@ pub fn write_at<F: SectorFlash>(
         → 0 < free_slots F.SLOTS place.old → free_slots F.SLOTS place.old < free_slots F.SLOTS place.new
         → free_slots F.SLOTS place.new + 1 + spare_slot_of F.SLOTS F.SECTORS F.sector_start
         (turn_of F.SLOTS (F.state flash.old).words) (steps_of F.PAGES) ≡ F.SLOTS) }
-    ensures light { Tries TRIES (F.state flash.old) (F.state flash.new) result }
-    ensures work { Costs 38 40 (F.state flash.old) (F.state flash.new) }
-    ensures erases { (F.state flash.new).erases + (F.state flash.old).faults
-        ≤ (F.state flash.old).erases + 1 + (F.state flash.new).faults }
+    ensures light { Tries 1 (F.state flash.old) (F.state flash.new) result }
+    // While no step is due, it fails only if as many tries did, and each passed over its slot.
+    ensures tries { sector_lead F.SECTORS < free_slots F.SLOTS place.old
+        → Tries TRIES (F.state flash.old) (F.state flash.new) result }
+    ensures gives_up { IsErrOf result DeviceErr.Fault → sector_lead F.SECTORS < free_slots F.SLOTS place.old
+        → free_slots F.SLOTS place.new + TRIES ≤ free_slots F.SLOTS place.old }
+    ensures work { Costs 38 2 (F.state flash.old) (F.state flash.new) }
+    // However often the flash fails and power was lost before.
+    ensures most { (F.state flash.new).operations ≤ (F.state flash.old).operations + 64 }
+    ensures erases { (F.state flash.new).erases ≤ (F.state flash.old).erases + 1 }
 {
+    look(flash, place)?;
+    take_step(flash, place)?;
     for _ in 1..TRIES {
         match write_once(flash, place, page, first, words) {
             Ok(()) => return Ok(()),
             Err(DeviceErr::PowerLost) => return Err(DeviceErr::PowerLost),
             Err(DeviceErr::Fault) => {}
+        }
+        if !has_slot::<F>(place) {
+            return Err(DeviceErr::Fault);
         }
     }
     write_once(flash, place, page, first, words)

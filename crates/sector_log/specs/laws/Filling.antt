@@ -14,6 +14,7 @@ use Rattle.flash_device.specs.PutRecords.{IsPut}
 use Rattle.flash_device.specs.laws.Finding.{find-past}
 use Rattle.flash_device.specs.laws.Marks.{closed_same, elsewhere_wider}
 use Rattle.flash_device.specs.laws.Putting.{holds_none}
+use Rattle.flash_device.specs.laws.Rising.{rises_to}
 use Rattle.flash_area.specs.PageCopies.{KeepsOthers}
 use Rattle.flash_area.specs.Spares.{spare_in, spare_sector}
 use Rattle.flash_area.specs.laws.Copying.{SameArea, area_found, area_page, last_found}
@@ -172,6 +173,13 @@ module _ (pages slots : ℕ) (m after words : List ℕ) (home base low high : �
         ∙ area_page low m after base same p k few ∙ has.each p k lt but few;
     left = λ p from lt lacks. past p ∙ area_found low m after base same p ∙ has.left p from lt (held p lacks);
   }
+
+-- the slots from a later sector on begin later
+pub slot_rises : (start : ℕ → ℕ) (slots sectors : ℕ) → ((s : ℕ) → start s ≤ start (s + 1)) → (turn n k : ℕ) → n ≤ k
+    → spare_slot slots sectors start turn n ≤ spare_slot slots sectors start turn k
+slot_rises start slots sectors rise turn n k le =
+    let up = rises_to start rise (spare_sector sectors turn + n) (spare_sector sectors turn + k) (omega (arith, le)) in
+    omega (arith, up)
 
 -- The sector of a step is erased.
 module _ (pages slots sectors : ℕ) (start : ℕ → ℕ) (m after : List ℕ) (turn n : ℕ)

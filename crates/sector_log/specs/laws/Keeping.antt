@@ -12,7 +12,7 @@ use Rattle.flash_device.specs.FlashBlocks.{area_size, steps_of, witness_start}
 use Rattle.flash_device.specs.FlashCalls.{AreFilled, SameElsewhere}
 use Rattle.flash_device.specs.FlashLogs.{base_in, close_of, find, is_marked, slot_of}
 use Rattle.flash_device.specs.FlashLogs.{turn_of, word_of, words_of}
-use Rattle.flash_device.specs.PageTables.{AreFree}
+use Rattle.flash_device.specs.PageTables.{AreFree, IsPageTable}
 use Rattle.flash_device.specs.laws.Finding.{find-past}
 use Rattle.flash_device.specs.laws.Marks.{elsewhere_wider, filled_open}
 use Rattle.flash_device.specs.laws.Putting.{holds_none}
@@ -28,7 +28,7 @@ use Rattle.flash_log.specs.Rings.{IsRing, SameMarks}
 use Rattle.flash_log.specs.laws.Moving.{Stays}
 use Rattle.flash_log.specs.laws.Sparing.{SameBlock, block_area, home_leaves, index_same, pass_block}
 use Rattle.flash_log.specs.laws.Sparing.{pass_home, pass_turns, pass_words, spare_leaves, spare_stays}
-use Rattle.flash_log.specs.laws.Turns.{turn_same}
+use Rattle.flash_log.specs.laws.Turns.{ring_same, turn_same}
 use Rattle.sector_log.specs.laws.Sizing.{sector_high, sector_low}
 use Rattle.sector_log.specs.laws.Stepping.{none_begun, sector_steps_most}
 use Rattle.sector_log.specs.SectorPlaces.{HasTakenStep, IsSectorLog, IsSectorPlace, KeepsStep}
@@ -354,17 +354,35 @@ module _ (pages slots sectors : ℕ) (start : ℕ → ℕ) where
 
     -- A run of a page is written, or torn, in a slot of the area in use.
     module _ {T : Type 0} (entries : T → List ℕ) (left : steps_of pages < sectors) (m after : List ℕ) (p : PageMap T)
-        (at : IsSectorPlace entries pages slots sectors start m p) (none : p.older ≡ 0)
+        (at : IsSectorPlace entries pages slots sectors start m p)
         (elsewhere : SameElsewhere m (base_in slots p.turn) (20 * slots) after)
         (held : (q : ℕ) → find after (base_in slots p.turn) slots q ≡ 0
         → find m (base_in slots p.turn) slots q ≡ 0)
-        (page from : ℕ) (run : List ℕ) (fits : from + length run ≤ 16) where
-      -- once it is written, the copy of its page is older, if it has one
+        (page from : ℕ) (older : (p.older ≡ 0) ⊎ (p.older ≡ page + 1)) (run : List ℕ)
+        (fits : from + length run ≤ 16) where
+      others : (words_of pages slots after ≡ words_of pages slots m)
+          ⊎ (words_of pages slots after ≡ written (words_of pages slots m) (16 * page + from) run)
+          → (q k : ℕ) → q ≢ page → k < 16
+          → slice_index (words_of pages slots after) (16 * q + k) ≡ slice_index (words_of pages slots m) (16 * q + k)
+      others whole q k other small = ⊎_elim
+          (λ (same : words_of pages slots after ≡ words_of pages slots m).
+          ap (λ (l : List ℕ). slice_index l (16 * q + k)) same)
+          (λ (done : words_of pages slots after ≡ written (words_of pages slots m) (16 * page + from) run).
+          ap (λ (l : List ℕ). slice_index l (16 * q + k)) done
+          ∙ written_other (words_of pages slots m) run page from q k other small fits)
+          whole
+
+      not_older : (q : ℕ) → q ≢ page → q + 1 ≢ p.older
+      not_older q other = λ e. ⊎_elim (λ (none : p.older ≡ 0). absurd (omega (arith, e, none)))
+          (λ (one : p.older ≡ page + 1). other (omega (arith, e, one))) older
+
+      -- whether it is written or torn, the copy of its page may be older, if it has one
       pub run_spare : (o : ℕ) → (page < STEP_PAGES * p.copied → o ≡ page + 1)
           → (STEP_PAGES * p.copied ≤ page → o ≡ 0)
-          → words_of pages slots after ≡ written (words_of pages slots m) (16 * page + from) run
+          → (words_of pages slots after ≡ words_of pages slots m)
+          ⊎ (words_of pages slots after ≡ written (words_of pages slots m) (16 * page + from) run)
           → IsSectorSpare pages slots sectors start after p.turn p.erased p.copied o
-      run_spare o one zero done =
+      run_spare o one zero whole =
           let most : o ≤ STEP_PAGES * p.copied = ⊎_elim
           (λ (lt : page < STEP_PAGES * p.copied). let is = one lt in omega (arith, is, lt))
           (λ (ge : STEP_PAGES * p.copied ≤ page). let is = zero ge in omega (arith, is))
@@ -372,38 +390,69 @@ module _ (pages slots sectors : ℕ) (start : ℕ → ℕ) where
           block_spare left m after p.turn p.erased p.copied p.older at.spare
           (home_leaves slots m after p.turn elsewhere) held o most
           (λ q k lt but small.
-          let other : q ≢ page = λ is. let named = one (omega (arith, is, lt)) in but (omega (arith, is, named)) in (
-            λ e. absurd (omega (arith, e, none)),
-            ap (λ (l : List ℕ). slice_index l (16 * q + k)) done
-                ∙ written_other (words_of pages slots m) run page from q k other small fits,
-          ))
+          let other : q ≢ page = λ is. let named = one (omega (arith, is, lt)) in but (omega (arith, is, named)) in
+          (not_older q other, others whole q k other small))
 
-      -- so the area in use has a free slot for each step that is left, whether it is written or torn
+      -- so the area in use has a free slot for each step that is left
       pub run_in_step : (tried : ℕ) → tried ≤ p.next + 1
           → sector_steps pages sectors p.turn p.erased p.copied + p.next < slots
           → SameMarks slots m after → AreFree after (base_in slots p.turn) (p.next + 1) slots
           → (words_of pages slots after ≡ words_of pages slots m)
           ⊎ (words_of pages slots after ≡ written (words_of pages slots m) (16 * page + from) run)
           → HasRoomForSteps pages slots sectors start after tried
-      run_in_step tried passed room marks free = ⊎_elim
-          (λ (same : words_of pages slots after ≡ words_of pages slots m).
-          put p.older (block_stays left m after p.turn p.erased p.copied p.older at.spare
-          (home_leaves slots m after p.turn elsewhere) held same))
-          (λ (done : words_of pages slots after ≡ written (words_of pages slots m) (16 * page + from) run). ⊎_elim
+      run_in_step tried passed room marks free whole = ⊎_elim
           (λ (lt : page < STEP_PAGES * p.copied).
-          put (page + 1) (run_spare (page + 1) (λ is. refl) (λ ge. absurd (omega (arith, lt, ge))) done))
+          put (page + 1) (run_spare (page + 1) (λ is. refl) (λ ge. absurd (omega (arith, lt, ge))) whole))
           (λ (ge : STEP_PAGES * p.copied ≤ page).
-          put 0 (run_spare 0 (λ lt. absurd (omega (arith, lt, ge))) (λ is. refl) done))
-          (cases_lt page (STEP_PAGES * p.copied)))
+          put 0 (run_spare 0 (λ lt. absurd (omega (arith, lt, ge))) (λ is. refl) whole))
+          (cases_lt page (STEP_PAGES * p.copied))
         where
           put : (o : ℕ) → IsSectorSpare pages slots sectors start after p.turn p.erased p.copied o
               → HasRoomForSteps pages slots sectors start after tried
           put o spare = in_step_from after tried p.turn p.erased p.copied o (p.next + 1)
               (at.turn ∙ sym (turn_same slots m after marks)) spare free (omega (arith, room)) passed
 
+      -- The record takes a slot beside those of the steps.
+      module _ (ring : IsRing slots m)
+          (room : sector_steps pages sectors p.turn p.erased p.copied + p.next < slots)
+          (marks : SameMarks slots m after) (free : AreFree after (base_in slots p.turn) (p.next + 1) slots)
+          (whole : (words_of pages slots after ≡ words_of pages slots m)
+          ⊎ (words_of pages slots after ≡ written (words_of pages slots m) (16 * page + from) run)) where
+        -- the log has to find its pages again
+        pub run_unknown : (table : T) → IsSectorLog entries pages slots sectors start after
+            (record p { ready = false; table = table; tried = p.next + 1 })
+        run_unknown table = record {
+          ring = ring_same slots m after marks ring;
+          known = λ e. absurd (true≢false (sym e));
+          found = λ e. run_in_step (p.next + 1) (omega arith) room marks free whole;
+        }
+
+        -- or it knows them, by a table of the area
+        pub run_known : (table : T) (o : ℕ) → (page < STEP_PAGES * p.copied → o ≡ page + 1)
+            → (STEP_PAGES * p.copied ≤ page → o ≡ 0)
+            → IsPageTable pages after (base_in slots p.turn) slots (entries table)
+            → IsSectorLog entries pages slots sectors start after
+            (record p { ready = true; table = table; next = p.next + 1; tried = p.next + 1; older = o })
+        run_known table o one zero index = record {
+          ring = ring_same slots m after marks ring;
+          known = λ e. record {
+            place = record {
+              turn = at.turn ∙ sym (turn_same slots m after marks);
+              small = at.small;
+              index = index;
+              free = free;
+              spare = run_spare o one zero whole;
+              goes_on = λ some. let due = at.goes_on some in omega (arith, due);
+            };
+            room = omega (arith, room);
+            passed = omega arith;
+          };
+          found = λ e. absurd (true≢false e);
+        }
+
     -- All steps have copied pages.
     module _ (left : steps_of pages < sectors) (whole : pages ≡ STEP_PAGES * steps_of pages) (m : List ℕ) (turn : ℕ)
-        (room : spare_slot slots sectors start turn (steps_of pages) + (sectors + 1) < slots)
+        (room : spare_slot slots sectors start turn (steps_of pages) + sector_lead sectors < slots)
         (moved : HasMovedSteps pages slots sectors start m turn) where
       -- behind the sectors of the steps the other area is blank
       moved_blank : (k : ℕ) → start (spare_sector sectors turn + steps_of pages) ≤ k
@@ -504,33 +553,36 @@ module _ (pages slots sectors : ℕ) (start : ℕ → ℕ) where
 
     -- The turn has passed to the other area.
     module _ {T : Type 0} (entries : T → List ℕ) (left : steps_of pages < sectors) (m : List ℕ) (p : PageMap T)
-        (behind : ℕ) (room : behind + (sectors + 1) < slots) (fresh : HasMoved p behind) (none : p.older ≡ 0) where
-      pub moved_room : sector_steps pages sectors p.turn p.erased p.copied + p.next < slots
-      moved_room = let most = sector_steps_most pages sectors p.turn p.erased p.copied left in let free = fresh.free in
-          omega (arith, most, free, room)
+        (behind : ℕ) (room : behind + sector_lead sectors < slots) (fresh : HasMoved p behind) (none : p.older ≡ 0)
+      where
+        pub moved_room : sector_steps pages sectors p.turn p.erased p.copied + p.next < slots
+        moved_room =
+            let most = sector_steps_most pages sectors p.turn p.erased p.copied left in
+            let free = fresh.free in
+            omega (arith, most, free, room)
 
-      -- the next move has not begun
-      pub moved_place : LEAST_PAGES ≤ pages → IsPlaceOf entries pages slots sectors start m p
-          → KeepsStep entries pages slots sectors start m p
-      moved_place least at = record {
-        place = record {
-          turn = at.turn;
-          small = at.small;
-          index = at.index;
-          free = at.free;
-          spare = subst (λ (e : ℕ). IsSectorSpare pages slots sectors start m p.turn e p.copied p.older)
-              (sym fresh.erased)
-              (subst (λ (c : ℕ). IsSectorSpare pages slots sectors start m p.turn 0 c p.older) (sym fresh.copied)
-              (subst (λ (o : ℕ). IsSectorSpare pages slots sectors start m p.turn 0 0 o) (sym none)
-              (none_begun pages slots sectors start first second third least m p.turn)));
-          goes_on = λ some. let zero_copied = fresh.copied in absurd (omega (arith, some, zero_copied));
-        };
-        room = let fits = moved_room in omega (arith, fits);
-        passed = let zero_tried = fresh.tried in omega (arith, zero_tried);
-      }
+        -- the next move has not begun
+        pub moved_place : LEAST_PAGES ≤ pages → IsPlaceOf entries pages slots sectors start m p
+            → KeepsStep entries pages slots sectors start m p
+        moved_place least at = record {
+          place = record {
+            turn = at.turn;
+            small = at.small;
+            index = at.index;
+            free = at.free;
+            spare = subst (λ (e : ℕ). IsSectorSpare pages slots sectors start m p.turn e p.copied p.older)
+                (sym fresh.erased)
+                (subst (λ (c : ℕ). IsSectorSpare pages slots sectors start m p.turn 0 c p.older) (sym fresh.copied)
+                (subst (λ (o : ℕ). IsSectorSpare pages slots sectors start m p.turn 0 0 o) (sym none)
+                (none_begun pages slots sectors start first second third least m p.turn)));
+            goes_on = λ some. let zero_copied = fresh.copied in absurd (omega (arith, some, zero_copied));
+          };
+          room = let fits = moved_room in omega (arith, fits);
+          passed = let zero_tried = fresh.tried in omega (arith, zero_tried);
+        }
 
-      pub moved_step : HasTakenStep pages slots sectors p
-      moved_step = record { ready = fresh.ready; older = none; room = moved_room }
+        pub moved_step : HasTakenStep pages slots sectors p
+        moved_step = record { ready = fresh.ready; older = none; room = moved_room }
 
 -- what follows where a call returns, by two clauses, and where it fails
 pub by_both : {R A B C D : Type 0} (r : Result R DeviceErr) → OnOk r A → OnOk r B → OnErr r D → (A → B → C)

@@ -7,7 +7,7 @@ use Rattle.flash_device.specs.declared.layout.TheConstants.{STEP_PAGES}
 use Rattle.flash_device.specs.laws.Rising.{rises_to}
 use Rattle.flash_area.specs.Spares.{spare_in, spare_sector}
 use Rattle.flash_area.specs.laws.Sectors.{spare_first, spare_end}
-use Rattle.sector_log.specs.SectorSpares.{slots_before, slot_from, spare_slot, spare_slots}
+use Rattle.sector_log.specs.SectorSpares.{sector_lead, slots_before, slot_from, spare_slot, spare_slots}
 
 -- Slots are those before a boundary, or behind it.
 module _ (start : ℕ → ℕ) (base sector s : ℕ) where
@@ -48,7 +48,7 @@ module _ (start : ℕ → ℕ) (slots sectors : ℕ) (rise : (s : ℕ) → start
 
   -- the sectors of the steps end where slots of the area are left
   pub steps_end : (pages n : ℕ) → n ≤ steps_of pages
-      → spare_slot slots sectors start turn (steps_of pages) + (sectors + 1) < slots
+      → spare_slot slots sectors start turn (steps_of pages) + sector_lead sectors < slots
       → start (spare_sector sectors turn + n) ≤ spare_in slots turn + 20 * slots
   steps_end pages n le left =
       let up = rises_to start rise (spare_sector sectors turn + n) (spare_sector sectors turn + steps_of pages)

@@ -12,15 +12,15 @@ use Rattle.flash_area.specs.Spares.{spare_in, spare_sector}
 use Rattle.flash_area.specs.laws.Sectors.{spare_first}
 use Rattle.flash_log.specs.declared.place.PageMap.{PageMap}
 use Rattle.sector_log.specs.SectorPlaces.{IsSectorPlace, KeepsStep, place_steps}
-use Rattle.sector_log.specs.SectorSpares.{HasRoomForSteps, IsSectorSpare, sector_lead, sector_steps, spare_slots}
+use Rattle.sector_log.specs.SectorSpares.{HasRoomForSteps, IsSectorSpare, sector_steps, spare_slots}
 
--- a move has no more steps than its lead
+-- a move has no more steps than sectors, and one
 pub sector_steps_most : (pages sectors turn erased copied : ℕ) → steps_of pages < sectors
-    → sector_steps pages sectors turn erased copied ≤ sector_lead sectors
+    → sector_steps pages sectors turn erased copied ≤ sectors + 1
 sector_steps_most pages sectors turn erased copied left = by_test (nat_eq turn 1)
   where
     by_test : (b : Bool) → (if b then 1 else 0) + (sectors - steps_of pages - erased) + (steps_of pages - copied)
-        ≤ sector_lead sectors
+        ≤ sectors + 1
     by_test true = omega (arith, left)
     by_test false = omega (arith, left)
 

@@ -39,6 +39,16 @@ copy_page-requires-clause-entry g c =
       c.requires.index.1.each page below ∙ sym (area_found slots m mid (base_in slots c.args.turn) same page),
     )
 
+pub copy_page-requires-clause-free : goal.copy_page-requires-clause-free
+copy_page-requires-clause-free g c =
+    let room = c.loop-k.invariant.room in
+    let some = c.requires.some in
+    let less = c.loop-k-test.true in
+    let rest = c.loop-k.invariant.rest c.args.end (omega arith) c.requires.free in record {
+      within = omega (arith, room, some);
+      free = λ s from lt. rest.free s from (omega (arith, lt, some, less));
+    }
+
 pub loop-k-preserved : goal.loop-k-preserved
 loop-k-preserved g c =
     let slots = g.F.Flash.SLOTS in
@@ -73,16 +83,18 @@ loop-k-preserved g c =
       lit = lit.lit;
       steady = record { lit = lit.lit; due = lit.due ∙ was.steady.due; faults = omega (arith, faults, rise) };
       operations = omega (arith, before, work);
+      spends = omega (arith, was.spends, c.in_ok-free.ensures.spends);
       erases = c.copy_page.ensures.erases ∙ was.erases;
       least = omega (arith, least, most);
       room = omega (arith, most, some);
       elsewhere = elsewhere_then m mid after at size was.elsewhere
           (elsewhere_wider mid after (slot_of base free) (20 * (end - free)) at size (omega (arith, least))
           (omega (arith, least, some, room, less)) c.copy_page.ensures.elsewhere);
-      rest = c.in_ok-free.ensures.free a.end inside was.rest;
-      copies = λ words named has.
-          subst (λ (j : ℕ). HasSectorCopies pages slots after words (base_in slots a.turn) base a.end j 0) there
-          (c.in_ok-free.ensures.copies a.end words inside
-          (named ∙ sym (words_stay pages slots m mid a.turn within c.requires.turn.2)) was.rest
-          (was.copies words named has));
+      rest = λ below le are.
+          c.in_ok-free.ensures.free below (omega (arith, inside, le)) (was.rest below le are);
+      copies = λ below words le named are has.
+          subst (λ (j : ℕ). HasSectorCopies pages slots after words (base_in slots a.turn) base below j 0) there
+          (c.in_ok-free.ensures.copies below words (omega (arith, inside, le))
+          (named ∙ sym (words_stay pages slots m mid a.turn within c.requires.turn.2)) (was.rest below le are)
+          (was.copies below words le named are has));
     }

@@ -45,6 +45,7 @@ loop-slot-init g c =
       failed = omega arith;
       least = omega arith;
       operations = omega arith;
+      spends = omega arith;
       erases = refl;
       elsewhere = record { same = λ k out. refl };
       free = c.requires.free;
@@ -109,6 +110,7 @@ loop-slot-preserved g c =
       failed = omega (arith, more, was.failed);
       least = omega (arith, was.least);
       operations = omega (arith, more, work, was.operations);
+      spends = omega (arith, work, was.spends);
       erases = c.program_record.ensures.erases ∙ was.erases;
       elsewhere = elsewhere g try;
       free = behind_free c.args.end mid after base s words put lt was.free size;

@@ -3,6 +3,7 @@ use Rattle.flash_area.specs.PageCopies.{KeepsOthers}
 use Rattle.flash_device.specs.FlashCalls.{KeepsPower, SameElsewhere}
 use Rattle.flash_device.specs.FlashLogs.{base_in, slot_of}
 use Rattle.flash_device.specs.PageTables.{AreFree}
+use Rattle.sector_log.specs.SectorSpares.{SpendsSlots}
 use Rattle.sector_log.proofs.filling.put_in_sector.Given as goal
 
 abbrev pub invariant-loop-slot : goal.invariant-loop-slot
@@ -15,6 +16,7 @@ invariant-loop-slot g l =
       failed : old.faults + l.slot ≤ new.faults + l.next;
       least : l.next ≤ l.slot;
       operations : new.operations + 2 * old.faults ≤ old.operations + 2 * new.faults;
+      spends : SpendsSlots l.next l.slot old new;
       erases : new.erases ≡ old.erases;
       elsewhere : SameElsewhere old.words (slot_of base l.next) (20 * (l.end - l.next)) new.words;
       free : AreFree new.words base l.slot l.end;

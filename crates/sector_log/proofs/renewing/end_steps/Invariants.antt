@@ -19,6 +19,6 @@ invariant-loop g l =
       words : words_of pages slots new.words ≡ words_of pages slots old.words;
       log : IsSectorLog g.F.Table.PageTable.entries pages slots sectors g.F.Flash.sector_start new.words l.place;
       ready : l.place.ready ≡ true;
-      taken : (l.counter + place_steps pages sectors l.place ≤ sector_lead sectors)
+      taken : (l.counter + place_steps pages sectors l.place ≤ sectors + 1)
           ⊎ (l.place.next + sector_lead sectors < slots);
     }

@@ -4,7 +4,7 @@ use Rattle.flash_device.specs.FlashLogs.{base_in, words_of}
 use Rattle.flash_area.specs.Spares.{HasCopies, spare_in}
 use Rattle.flash_log.specs.Paces.{HasMoved}
 use Rattle.sector_log.specs.SectorPlaces.{IsSectorLog}
-use Rattle.sector_log.specs.SectorSpares.{HasRoomForSteps, spare_slot}
+use Rattle.sector_log.specs.SectorSpares.{HasRoomForSteps, sector_lead, spare_slot}
 use Rattle.sector_log.specs.laws.Keeping.{by_both, moved_copies, moved_place, moved_step}
 use Rattle.sector_log.specs.laws.Keeping.{ok_both, passed_in_step}
 use Rattle.sector_log.proofs.steps.end_move.Goals as goal
@@ -45,7 +45,7 @@ returns-clause-log g c =
     let behind : n ≡ spare_slot slots sectors start turn (steps_of pages) =
     c.spare_slot-place.ensures.is ∙ ap (λ (n : ℕ). spare_slot slots sectors start turn n) c.copy_steps.ensures in
     let fits = g.met.F.SectorFlash.slots_left turn in
-    let room : n + (sectors + 1) < slots = omega (arith, behind, fits) in
+    let room : n + sector_lead sectors < slots = omega (arith, behind, fits) in
     let ring = c.pass_turn.ensures.log.ring in
     by_both c.pass_turn.result c.pass_turn.ensures.fresh c.pass_turn.ensures.older c.pass_turn.ensures.unready
     (λ (fresh : HasMoved q n). λ (none : q.older ≡ 0).
@@ -77,7 +77,7 @@ returns-clause-step g c =
     let behind : n ≡ spare_slot slots sectors start turn (steps_of pages) =
     c.spare_slot-place.ensures.is ∙ ap (λ (n : ℕ). spare_slot slots sectors start turn n) c.copy_steps.ensures in
     let fits = g.met.F.SectorFlash.slots_left turn in
-    let room : n + (sectors + 1) < slots = omega (arith, behind, fits) in
+    let room : n + sector_lead sectors < slots = omega (arith, behind, fits) in
     ok_both c.pass_turn.result c.pass_turn.ensures.fresh c.pass_turn.ensures.older
     (λ (fresh : HasMoved q n). λ (none : q.older ≡ 0).
     moved_step pages slots sectors start g.met.F.Flash.sectors_rise g.met.F.Flash.sectors_fit.0

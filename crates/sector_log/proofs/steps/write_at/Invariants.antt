@@ -1,21 +1,33 @@
-use Rattle.std.proofs.Common.{◌≡◌, ◌⊎◌, ◌≤◌, ◌+◌, ◌*◌, false}
+use Rattle.std.proofs.Common.{◌≡◌, ◌⊎◌, ◌<◌, ◌≤◌, ◌+◌, ◌*◌, false}
 use Rattle.nvm_board.specs.History.{written}
+use Rattle.flash_device.specs.FlashBlocks.{steps_of}
 use Rattle.flash_device.specs.FlashCalls.{KeepsPower}
 use Rattle.flash_device.specs.FlashLogs.{words_of}
-use Rattle.sector_log.specs.SectorPlaces.{IsSectorLog}
+use Rattle.flash_log.specs.Paces.{free_slots}
+use Rattle.sector_log.specs.SectorPlaces.{IsSectorLog, StaysInStep}
+use Rattle.sector_log.specs.SectorSpares.{sector_lead, spare_slot}
 use Rattle.sector_log.proofs.steps.write_at.Given as goal
 
 abbrev pub invariant-loop : goal.invariant-loop
-invariant-loop g l = let old = g.F.Flash.state l.initial.flash in let new = g.F.Flash.state l.flash in record {
-  lit : new.dark ≡ false;
-  steady : KeepsPower old new;
-  failed : old.faults + l.counter ≤ new.faults + 1;
-  operations : new.operations + 40 * old.faults ≤ old.operations + 40 * new.faults;
-  erases : new.erases + old.faults ≤ old.erases + new.faults;
-  first : new.faults ≡ old.faults → (l.place ≡ l.initial.place) × (new ≡ old);
-  log : IsSectorLog g.F.Table.PageTable.entries g.F.Flash.PAGES g.F.Flash.SLOTS g.F.Flash.SECTORS
-      g.F.Flash.sector_start new.words l.place;
-  whole : (words_of g.F.Flash.PAGES g.F.Flash.SLOTS new.words ≡ words_of g.F.Flash.PAGES g.F.Flash.SLOTS old.words)
-      ⊎ (words_of g.F.Flash.PAGES g.F.Flash.SLOTS new.words
-      ≡ written (words_of g.F.Flash.PAGES g.F.Flash.SLOTS old.words) (16 * l.page + l.first) l.words);
-}
+invariant-loop g l =
+    let slots = g.F.Flash.SLOTS in
+    let pages = g.F.Flash.PAGES in
+    let sectors = g.F.Flash.SECTORS in
+    let start = g.F.Flash.sector_start in
+    let old = g.F.Flash.state l.fn.flash in
+    let new = g.F.Flash.state l.flash in record {
+      lit : new.dark ≡ false;
+      steady : KeepsPower old new;
+      failed : old.faults + l.counter ≤ new.faults + 1;
+      most : new.operations + 2 ≤ old.operations + 48 + 2 * l.counter;
+      work : new.operations + 2 * old.faults ≤ old.operations + 36 + 2 * new.faults;
+      erases : new.erases ≤ old.erases + 1;
+      log : IsSectorLog g.F.Table.PageTable.entries pages slots sectors start new.words l.place;
+      takes : StaysInStep pages slots sectors l.page l.place;
+      calm : sector_lead sectors < free_slots slots l.fn.place → (l.place.next + 1 ≡ l.fn.place.next + l.counter)
+          × (new.operations + 2 ≤ old.operations + 2 * l.counter) × (new.erases ≡ old.erases);
+      next : new.faults ≡ old.faults → 0 < free_slots slots l.fn.place → (l.place.next ≡ l.fn.place.next)
+          ⊎ (l.place.next ≡ spare_slot slots sectors start l.fn.place.turn (steps_of pages));
+      whole : (words_of pages slots new.words ≡ words_of pages slots old.words) ⊎ (words_of pages slots new.words
+          ≡ written (words_of pages slots old.words) (16 * l.page + l.first) l.words);
+    }

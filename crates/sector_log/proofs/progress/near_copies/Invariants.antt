@@ -1,10 +1,10 @@
-use Rattle.std.proofs.Common.{◌≡◌, ◌<◌, ◌≤◌, ℕ, false}
+use Rattle.std.proofs.Common.{◌≡◌, ◌<◌, ◌≤◌, ◌+◌, ℕ, false}
 use Rattle.flash_device.specs.FlashCalls.{StaysLit}
 use Rattle.sector_log.specs.SectorSpares.{HasStepCopies}
-use Rattle.sector_log.proofs.progress.find_copies.Given as goal
+use Rattle.sector_log.proofs.progress.near_copies.Given as goal
 
-abbrev pub invariant-loop-copied : goal.invariant-loop-copied
-invariant-loop-copied g l =
+abbrev pub invariant-loop-k : goal.invariant-loop-k
+invariant-loop-k g l =
     let old = g.F.Flash.state l.initial.flash in
     let new = g.F.Flash.state l.flash in record {
       words : new.words ≡ old.words;
@@ -12,6 +12,6 @@ invariant-loop-copied g l =
       erases : new.erases ≡ old.erases;
       lit : new.dark ≡ false;
       steady : StaysLit old new;
-      none : (c o : ℕ) → l.least ≤ c → c < l.copied → HasStepCopies g.F.Flash.PAGES g.F.Flash.SLOTS
+      none : (c o : ℕ) → l.end ≤ c + l.k → c < l.end → HasStepCopies g.F.Flash.PAGES g.F.Flash.SLOTS
           g.F.Flash.SECTORS g.F.Flash.sector_start old.words l.turn c o → ⊥;
     }
