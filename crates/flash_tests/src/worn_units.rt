@@ -7,7 +7,7 @@ use flash_log::{FlashLog, format_flash};
 use nvm_board::{Board, DeviceErr};
 use program_units::UnitFlash;
 use simulated_chips::{Eight, Four, One, SimSpareUnits, UnitSize};
-use spare_sectors::SpareUnits;
+use spare_units::SpareUnits;
 use std::alloc::Global;
 use std::test::Fail;
 

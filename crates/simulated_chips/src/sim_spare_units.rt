@@ -12,7 +12,8 @@ use crate::sim_units::{count_run, used_words};
 use crate::unit_sizes::UnitSize;
 use flash_device::{BLANK, PageSlots};
 use nvm_board::DeviceErr;
-use spare_sectors::{MapDevice, SparePart, SpareUnitDevice, SpareUnitSocket};
+use spare_sectors::{MapDevice, SparePart};
+use spare_units::{SpareUnitDevice, SpareUnitSocket};
 use std::alloc::{AllocError, Global};
 
 /// The number of words of all sectors: two in each area, the witness, and two spare ones.
@@ -61,7 +62,7 @@ pub struct SimSpareUnits<S: UnitSize> {
 }
 
 impl<S: UnitSize + Drop> SimSpareUnits<S> {
-    ghost use Rattle.spare_sectors.specs.SpareFrames.{without_spare_units};
+    ghost use Rattle.spare_units.specs.SpareFrames.{without_spare_units};
     ghost use Rattle.simulated_chips.specs.SimSpareUnitStates.{sim_spare_units_state};
 
     /// Returns a blank device, which leaves garbage by this seed.

@@ -2,5 +2,3 @@ pub mod SpareMaps
 pub mod SparePlaces
 pub mod SpareStates
 pub mod laws
-pub mod MovedSectors
-pub mod SpareFrames

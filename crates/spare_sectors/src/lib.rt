@@ -1,20 +1,16 @@
-//! A layer between a chip and the log of `flash_log`: spare sectors of the chip replace worn ones, also where it
-//! programs whole units.
+//! A layer between a chip and the log of `flash_log`: spare sectors of the chip replace worn ones.
 #![tactic(auto)]
 
 mod map_device;
 mod spare_calls;
 mod spare_device;
 mod spare_flash;
-mod spare_frames;
 mod spare_map;
 mod spare_places;
-mod spare_unit_calls;
-mod spare_unit_device;
-mod spare_units;
 
 pub use map_device::{MapDevice, SparePart};
+pub use spare_calls::{SectorMap, learn};
 pub use spare_device::{SpareDevice, SpareSocket};
 pub use spare_flash::SpareFlash;
-pub use spare_unit_device::{SpareUnitDevice, SpareUnitSocket};
-pub use spare_units::SpareUnits;
+pub use spare_map::{put_mark, put_number};
+pub use spare_places::lies_at;

@@ -7,9 +7,9 @@ use Rattle.std.proofs.lemmas.List.Elements.{All-replicate}
 use Rattle.nvm_board.specs.Facts.{AreWords}
 use Rattle.flash_device.specs.declared.flash.TheConstants.{BLANK}
 use Rattle.flash_device.specs.FlashLogs.{slot_of}
-use Rattle.spare_sectors.specs.SpareFrames.{unit_list, word_sector, word_start}
+use Rattle.spare_units.specs.SpareFrames.{unit_list, word_sector, word_start}
 use Rattle.program_units.specs.UnitFrames.{device_size, place_in}
-use Rattle.spare_sectors.specs.laws.MovedWords.{index-moved_words, length-moved_words}
+use Rattle.spare_units.specs.laws.MovedWords.{index-moved_words, length-moved_words}
 use Rattle.simulated_chips.specs.declared.sim_spare_units.TheConstants.{ALL_FRAMES, MAP_WORDS}
 use Rattle.simulated_chips.proofs.sim_spare_units.SimSpareUnits.new.Goals as goal
 

@@ -1,8 +1,8 @@
 use Rattle.std.proofs.Common.{◌*◌, ℕ, sym, ap, ◌∙◌, slice_index}
-use Rattle.spare_sectors.specs.SpareFrames.{word_sector, word_start}
+use Rattle.spare_units.specs.SpareFrames.{word_sector, word_start}
 use Rattle.program_units.specs.UnitFrames.{device_size}
-use Rattle.spare_sectors.specs.laws.MovedWords.{index-moved_words}
-use Rattle.spare_sectors.proofs.spare_unit_calls.read_frame.Goals as goal
+use Rattle.spare_units.specs.laws.MovedWords.{index-moved_words}
+use Rattle.spare_units.proofs.spare_unit_calls.read_frame.Goals as goal
 
 pub returns-clause-word : goal.returns-clause-word
 returns-clause-word g c =

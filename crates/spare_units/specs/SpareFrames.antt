@@ -3,7 +3,7 @@
 -- behind it.
 use Rattle.std.specs.Prelude.{◌<◌, ◌≤◌, ◌+◌, ◌-◌, ◌*◌, ◌/◌, ◌^◌, ℕ, List}
 use Rattle.std.specs.Prelude.{nat_le, nat_lt, if◌then◌else◌}
-use Rattle.spare_sectors.specs.MovedSectors.{moved_cell, moved_words}
+use Rattle.spare_units.specs.MovedSectors.{moved_cell, moved_words}
 use Rattle.spare_sectors.specs.SparePlaces.{all_sectors}
 use Rattle.spare_sectors.specs.SpareStates.{SpareState}
 use Rattle.program_units.specs.UnitFrames.{device_size, frame_count}

@@ -1,7 +1,7 @@
 use Rattle.std.proofs.Common.{◌≡◌, ◌<◌, ◌+◌, ◌-◌, ◌*◌, ℕ, sym, ap, ap₂, ◌∙◌, arith}
-use Rattle.spare_sectors.specs.SpareFrames.{sector_frame}
-use Rattle.spare_sectors.specs.laws.FrameParts.{start_a, start_b, start_end, start_w}
-use Rattle.spare_sectors.proofs.spare_frames.first_frame_of.Goals as goal
+use Rattle.spare_units.specs.SpareFrames.{sector_frame}
+use Rattle.spare_units.specs.laws.FrameParts.{start_a, start_b, start_end, start_w}
+use Rattle.spare_units.proofs.spare_frames.first_frame_of.Goals as goal
 
 pub returns-then-sector-SECTORS : goal.returns-then-sector-SECTORS
 returns-then-sector-SECTORS g c =

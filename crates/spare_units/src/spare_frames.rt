@@ -1,15 +1,14 @@
 //! Where the frames of a log lie on a device with program units and spare sectors.
 ghost use Rattle.std.specs.Prelude.{◌≡◌, ◌<◌, ◌≤◌, ◌+◌, ◌*◌};
 ghost use Rattle.flash_device.specs.PageTables.{IsPageTable};
-ghost use Rattle.spare_sectors.specs.SpareFrames.{frame_part, frame_sector, sector_frame, unit_cell};
+ghost use Rattle.spare_units.specs.SpareFrames.{frame_part, frame_sector, sector_frame, unit_cell};
 ghost use Rattle.spare_sectors.specs.SparePlaces.{all_sectors};
 ghost use Rattle.program_units.specs.UnitFrames.{device_size, frame_count};
 ghost use Rattle.program_units.specs.declared.unit_frames.TheConstants.{FRAME_WORDS};
 
-use crate::map_device::MapDevice;
-use crate::spare_places::lies_at;
 use crate::spare_unit_device::SpareUnitDevice;
 use program_units::FRAME_WORDS;
+use spare_sectors::{MapDevice, lies_at};
 
 /// The sector of a frame in its area, by its number there.
 fn part_of<D: SpareUnitDevice>(frame: u32) -> u16

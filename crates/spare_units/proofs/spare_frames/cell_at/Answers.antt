@@ -1,7 +1,7 @@
 use Rattle.std.proofs.Common.{◌∙◌, arith}
 use Rattle.spare_sectors.specs.laws.SpareSteps.{table_most}
-use Rattle.spare_sectors.specs.laws.UnitCells.{cell_fits, cell_inside, cell_is, sector_low, sector_most}
-use Rattle.spare_sectors.proofs.spare_frames.cell_at.Goals as goal
+use Rattle.spare_units.specs.laws.UnitCells.{cell_fits, cell_inside, cell_is, sector_low, sector_most}
+use Rattle.spare_units.proofs.spare_frames.cell_at.Goals as goal
 
 pub first_frame_of-requires : goal.first_frame_of-requires
 first_frame_of-requires g c =

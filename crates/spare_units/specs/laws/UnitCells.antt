@@ -8,16 +8,16 @@ use Rattle.nvm_board.specs.declared.board.DeviceErr.{DeviceErr}
 use Rattle.flash_device.specs.FlashCalls.{AreFilled, IsThere, Lights, SameElsewhere}
 use Rattle.flash_device.specs.FlashLogs.{find}
 use Rattle.flash_device.specs.PageTables.{AreFree, IsPageTable}
-use Rattle.spare_sectors.specs.SpareFrames.{TakesFrames, frame_sector, sector_frame, unit_cell, unit_list}
-use Rattle.spare_sectors.specs.SpareFrames.{without_spare_units, word_sector, word_start}
+use Rattle.spare_units.specs.SpareFrames.{TakesFrames, frame_sector, sector_frame, unit_cell, unit_list}
+use Rattle.spare_units.specs.SpareFrames.{without_spare_units, word_sector, word_start}
 use Rattle.spare_sectors.specs.SpareMaps.{MovesOnly}
 use Rattle.spare_sectors.specs.SparePlaces.{all_sectors, lies_by, lies_in}
 use Rattle.spare_sectors.specs.SpareStates.{SpareState}
 use Rattle.program_units.specs.UnitFrames.{AreUnits, IsFrameRun, IsPartRun, IsUnit, device_size, span_of}
-use Rattle.spare_sectors.specs.laws.FrameParts.{frame_run, frames_lie}
-use Rattle.spare_sectors.specs.laws.MovedWords.{cell_within, erased_elsewhere, erased_filled, run_blank}
-use Rattle.spare_sectors.specs.laws.MovedWords.{run_elsewhere, run_filled, run_there, run_within}
-use Rattle.spare_sectors.specs.laws.MovedWords.{taken_elsewhere, taken_filled, words_stay}
+use Rattle.spare_units.specs.laws.FrameParts.{frame_run, frames_lie}
+use Rattle.spare_units.specs.laws.MovedWords.{cell_within, erased_elsewhere, erased_filled, run_blank}
+use Rattle.spare_units.specs.laws.MovedWords.{run_elsewhere, run_filled, run_there, run_within}
+use Rattle.spare_units.specs.laws.MovedWords.{taken_elsewhere, taken_filled, words_stay}
 use Rattle.spare_sectors.specs.laws.SpareSteps.{lies_table}
 
 module _ (slots sectors each spares : ℕ) (takes : TakesFrames slots sectors each spares) where

@@ -4,7 +4,7 @@ ghost use Rattle.std.specs.Prelude.{IfOk, OnErr, OnOk};
 ghost use Rattle.flash_device.specs.FlashCalls.{AreFilled, IsThere, Lights, SameElsewhere};
 ghost use Rattle.flash_device.specs.PageTables.{AreFree, IsPageTable};
 ghost use Rattle.flash_device.specs.declared.flash.TheConstants.{BLANK};
-ghost use Rattle.spare_sectors.specs.SpareFrames.{sector_frame, unit_list, without_spare_units};
+ghost use Rattle.spare_units.specs.SpareFrames.{sector_frame, unit_list, without_spare_units};
 ghost use Rattle.spare_sectors.specs.SpareMaps.{HasSpares, TakesSpare, TriesSpare};
 ghost use Rattle.spare_sectors.specs.SparePlaces.{lies_in};
 ghost use Rattle.spare_sectors.specs.SpareStates.{Blames};
@@ -13,14 +13,11 @@ ghost use Rattle.program_units.specs.UnitStates.{CountsErase};
 ghost use Rattle.spare_sectors.specs.declared.map_device.SparePart.TheVariants.{Sector};
 ghost use Rattle.program_units.specs.declared.unit_frames.TheConstants.{FRAME_WORDS};
 
-use crate::map_device::MapDevice;
-use crate::spare_calls::{SectorMap, learn};
 use crate::spare_frames::cell_at;
-use crate::spare_map::{put_mark, put_number};
-use crate::spare_places::lies_at;
 use crate::spare_unit_device::SpareUnitDevice;
 use flash_device::PageTable;
 use nvm_board::DeviceErr;
+use spare_sectors::{MapDevice, SectorMap, learn, lies_at, put_mark, put_number};
 
 /// Reads a word of a frame.
 fn read_frame<D: SpareUnitDevice>(device: &mut D, table: &D::Map, at: u32) -> Result<u32, DeviceErr>

@@ -9,9 +9,9 @@ use Rattle.spare_sectors.specs.laws.SpareImages.{lies_spare}
 use Rattle.spare_sectors.specs.laws.SpareSteps.{index_moved}
 use Rattle.spare_sectors.specs.laws.SpareTurns.{mark_blank, mark_either, mark_found, mark_leaves, mark_moves}
 use Rattle.spare_sectors.specs.laws.SpareTurns.{number_keeps, number_leaves, number_moves}
-use Rattle.spare_sectors.specs.laws.UnitCells.{kept_units, no_error, none_moves, taken_others}
-use Rattle.spare_sectors.specs.laws.UnitCells.{taken_units}
-use Rattle.spare_sectors.proofs.spare_unit_calls.take_spare.Goals as goal
+use Rattle.spare_units.specs.laws.UnitCells.{kept_units, no_error, none_moves, taken_others}
+use Rattle.spare_units.specs.laws.UnitCells.{taken_units}
+use Rattle.spare_units.proofs.spare_unit_calls.take_spare.Goals as goal
 
 pub returns-in_err-put_number-clause-free : goal.returns-in_err-put_number-clause-free
 returns-in_err-put_number-clause-free g c =

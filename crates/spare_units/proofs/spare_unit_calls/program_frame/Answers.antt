@@ -1,8 +1,8 @@
 use Rattle.std.proofs.Common.{length, refl}
 use Rattle.flash_device.specs.declared.flash.TheConstants.{BLANK}
-use Rattle.spare_sectors.specs.laws.UnitCells.{units_blank, units_elsewhere, units_filled, units_part, units_run}
-use Rattle.spare_sectors.specs.laws.UnitCells.{units_there, units_within, units_written}
-use Rattle.spare_sectors.proofs.spare_unit_calls.program_frame.Goals as goal
+use Rattle.spare_units.specs.laws.UnitCells.{units_blank, units_elsewhere, units_filled, units_part, units_run}
+use Rattle.spare_units.specs.laws.UnitCells.{units_there, units_within, units_written}
+use Rattle.spare_units.proofs.spare_unit_calls.program_frame.Goals as goal
 
 pub program-requires-clause-run : goal.program-requires-clause-run
 program-requires-clause-run g c =

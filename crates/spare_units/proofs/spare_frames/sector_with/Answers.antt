@@ -1,7 +1,7 @@
 use Rattle.std.proofs.Common.{◌≡◌, ◌<◌, ◌≤◌, ◌+◌, ◌-◌, ◌*◌, ℕ, sym, ap, ap₂, ◌∙◌, arith}
-use Rattle.spare_sectors.specs.SpareFrames.{frame_part}
-use Rattle.spare_sectors.specs.laws.FrameParts.{sector_a, sector_b, sector_w}
-use Rattle.spare_sectors.proofs.spare_frames.sector_with.Goals as goal
+use Rattle.spare_units.specs.SpareFrames.{frame_part}
+use Rattle.spare_units.specs.laws.FrameParts.{sector_a, sector_b, sector_w}
+use Rattle.spare_units.proofs.spare_frames.sector_with.Goals as goal
 
 pub returns-then-frame-area : goal.returns-then-frame-area
 returns-then-frame-area g c =

@@ -9,14 +9,13 @@ ghost use Rattle.program_units.specs.UnitStates.{CountsErase};
 ghost use Rattle.program_units.specs.UnitWords.{HasFreshUnits};
 ghost use Rattle.program_units.specs.declared.unit_frames.TheConstants.{FRAME_WORDS};
 
-use crate::map_device::MapDevice;
-use crate::spare_calls::SectorMap;
 use crate::spare_frames::first_frame_of;
 use crate::spare_unit_calls::{erase_unit, program_unit, read_unit};
 use crate::spare_unit_device::{SpareUnitDevice, SpareUnitSocket};
 use flash_device::PageTable;
 use nvm_board::DeviceErr;
 use program_units::{UnitDevice, UnitSocket};
+use spare_sectors::{MapDevice, SectorMap};
 
 /// A device with program units over one that has spare sectors too. A sector that can't be erased is put into a spare
 /// one. `UnitFlash` makes a flash of it.
@@ -28,7 +27,7 @@ pub struct SpareUnits<D: SpareUnitDevice> {
 }
 
 impl<D: SpareUnitDevice> SpareUnits<D> {
-    ghost use Rattle.spare_sectors.specs.SpareFrames.{without_spare_units};
+    ghost use Rattle.spare_units.specs.SpareFrames.{without_spare_units};
 
     /// The units of a device. The first call reads the map.
     pub fn new(device: D) -> SpareUnits<D>
@@ -61,9 +60,9 @@ impl<D: SpareUnitDevice> SpareUnits<D> {
 }
 
 impl<D: SpareUnitDevice> UnitDevice for SpareUnits<D> {
-    ghost use Rattle.spare_sectors.specs.SpareFrames.{sector_frame, without_spare_units, word_sector, word_start};
-    ghost use Rattle.spare_sectors.specs.laws.FrameParts.{frames_fit, parts_rise};
-    ghost use Rattle.spare_sectors.specs.laws.MovedWords.{length-moved_words, moved_words_fit};
+    ghost use Rattle.spare_units.specs.SpareFrames.{sector_frame, without_spare_units, word_sector, word_start};
+    ghost use Rattle.spare_units.specs.laws.FrameParts.{frames_fit, parts_rise};
+    ghost use Rattle.spare_units.specs.laws.MovedWords.{length-moved_words, moved_words_fit};
 
     type Table = D::Table;
 

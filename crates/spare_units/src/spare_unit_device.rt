@@ -6,7 +6,7 @@ ghost use Rattle.flash_device.specs.FlashBlocks.{steps_of};
 ghost use Rattle.flash_device.specs.FlashCalls.{AreFilled, IsThere, Lights, SameElsewhere};
 ghost use Rattle.flash_device.specs.declared.flash.TheConstants.{BLANK};
 ghost use Rattle.flash_device.specs.declared.layout.TheConstants.{SPARES as PASSED_SLOTS, STEP_PAGES};
-ghost use Rattle.spare_sectors.specs.SpareFrames.{TakesFrames, own_units};
+ghost use Rattle.spare_units.specs.SpareFrames.{TakesFrames, own_units};
 ghost use Rattle.spare_sectors.specs.SparePlaces.{all_sectors};
 ghost use Rattle.spare_sectors.specs.SpareStates.{Blames};
 ghost use Rattle.program_units.specs.UnitFrames.{AreUnits, IsFrameRun, IsPartRun, IsUnit};
@@ -14,9 +14,9 @@ ghost use Rattle.program_units.specs.UnitStates.{CountsErase};
 ghost use Rattle.spare_sectors.specs.declared.map_device.SparePart.TheVariants.{Sector, Words};
 ghost use Rattle.program_units.specs.declared.unit_frames.TheConstants.{FRAME_WORDS};
 
-use crate::map_device::MapDevice;
 use flash_device::PageTable;
 use nvm_board::DeviceErr;
+use spare_sectors::MapDevice;
 
 /// A flash device that programs whole units, none again behind a program that returned Ok, until an erase. Its sectors
 /// have whole frames of 32 words, and one size: those of area A, those of area B, the witness, and spare ones.

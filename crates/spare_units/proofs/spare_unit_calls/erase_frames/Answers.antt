@@ -1,13 +1,13 @@
 use Rattle.std.proofs.Common.{◌≡◌, ◌*◌, ℕ, List, ap₂, inl, inr, subst, ⊎_elim, ◌∙◌, rules}
 use Rattle.flash_device.specs.declared.flash.TheConstants.{BLANK}
 use Rattle.flash_device.specs.FlashCalls.{AreFilled, SameElsewhere}
-use Rattle.spare_sectors.specs.SpareFrames.{unit_list}
+use Rattle.spare_units.specs.SpareFrames.{unit_list}
 use Rattle.spare_sectors.specs.SparePlaces.{lies_in}
 use Rattle.spare_sectors.specs.SpareStates.{Blames}
 use Rattle.spare_sectors.specs.declared.map_device.SparePart.TheVariants.{Sector}
 use Rattle.spare_sectors.specs.laws.SpareSteps.{lies_table, table_most}
-use Rattle.spare_sectors.specs.laws.UnitCells.{erased_behind, erased_others, erased_units}
-use Rattle.spare_sectors.proofs.spare_unit_calls.erase_frames.Goals as goal
+use Rattle.spare_units.specs.laws.UnitCells.{erased_behind, erased_others, erased_units}
+use Rattle.spare_units.proofs.spare_unit_calls.erase_frames.Goals as goal
 
 pub lies_at-requires-clause-spare : goal.lies_at-requires-clause-spare
 lies_at-requires-clause-spare g c =

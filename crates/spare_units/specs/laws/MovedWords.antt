@@ -12,7 +12,7 @@ use Rattle.flash_device.specs.FlashLogs.{find}
 use Rattle.flash_device.specs.PageTables.{AreFree}
 use Rattle.flash_device.specs.laws.Finding.{index-image, length-image}
 use Rattle.flash_device.specs.laws.Rising.{rises_to}
-use Rattle.spare_sectors.specs.MovedSectors.{IsLayout, moved_cell, moved_words}
+use Rattle.spare_units.specs.MovedSectors.{IsLayout, moved_cell, moved_words}
 use Rattle.spare_sectors.specs.SpareMaps.{MovesOnly}
 use Rattle.spare_sectors.specs.SparePlaces.{all_sectors, lies_in}
 use Rattle.spare_sectors.specs.laws.SpareImages.{blocks_apart, lie_apart, lies_within}

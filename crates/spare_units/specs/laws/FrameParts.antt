@@ -4,9 +4,9 @@ use Rattle.std.specs.Prelude.{nat_le, nat_lt, if◌then◌else◌}
 use Rattle.std.proofs.Common.{sym, ◌∙◌, ap, subst, ⊎_elim, arith}
 use Rattle.std.proofs.Math.Nat.{lt-mul-div-succ, mul-div-le, mul-le-mul_left, mul-suc}
 use Rattle.std.proofs.lemmas.Bool.{cases_lt, le-leb, le-ltb, lt-leb, lt-ltb}
-use Rattle.spare_sectors.specs.MovedSectors.{IsLayout}
-use Rattle.spare_sectors.specs.SpareFrames.{TakesFrames, frame_part, frame_sector, sector_frame, word_sector}
-use Rattle.spare_sectors.specs.SpareFrames.{word_start}
+use Rattle.spare_units.specs.MovedSectors.{IsLayout}
+use Rattle.spare_units.specs.SpareFrames.{TakesFrames, frame_part, frame_sector, sector_frame, word_sector}
+use Rattle.spare_units.specs.SpareFrames.{word_start}
 use Rattle.program_units.specs.UnitFrames.{device_size, frame_count}
 
 -- Where a frame of an area lies.

@@ -1,0 +1,3 @@
+pub mod MovedSectors
+pub mod SpareFrames
+pub mod laws

@@ -1,0 +1,4 @@
+-- Laws of the definitions, with their proofs.
+pub mod FrameParts
+pub mod MovedWords
+pub mod UnitCells
