@@ -2,11 +2,13 @@
 ghost use Rattle.std.specs.Prelude.{◌≡◌, ◌+◌};
 ghost use Rattle.program_units.specs.UnitWords.{HasFreshUnits};
 
+use crate::small_unit_device::SmallUnitDevice;
 use crate::unit_calls::{are_blank, erase_sector, program_run, read_word};
 use crate::unit_device::{UnitDevice, UnitSocket};
 use crate::unit_frames::start_of;
 use flash_device::{Flash, FlashSocket};
 use nvm_board::DeviceErr;
+use sector_log::SectorFlash;
 
 /// A flash over a device with program units. A record has units of its own, and so has each mark.
 #[derive(Drop)]
@@ -105,4 +107,21 @@ impl<D: UnitSocket> FlashSocket for UnitFlash<D> {
     fn power_off(&mut self) {
         self.device.power_off();
     }
+}
+
+impl<D: SmallUnitDevice> SectorFlash for UnitFlash<D> {
+    ghost use Rattle.flash_device.specs.declared.layout.TheConstants.{STEP_PAGES};
+    ghost use Rattle.sector_log.specs.SectorSpares.{sector_lead};
+    ghost use Rattle.program_units.specs.laws.SmallUnits.{units_hold, units_left};
+
+    ghost sectors_left = { D.sectors_left };
+
+    ghost sectors_hold = { λ turn n lt. units_hold D.SLOTS D.SECTORS D.PAGES (sector_lead D.SECTORS) D.first_frame
+        D.sectors_rise D.sectors_fit.0 D.sectors_fit.1 D.slots_left (STEP_PAGES + 2) turn n lt
+        (D.sectors_hold turn n lt) };
+
+    ghost slots_left = { units_left D.SLOTS D.SECTORS D.PAGES (sector_lead D.SECTORS) D.first_frame D.sectors_rise
+        D.sectors_fit.0 D.sectors_fit.1 D.slots_left };
+
+    ghost copies_left = { D.copies_left };
 }

@@ -1,7 +1,9 @@
-//! A layer between a chip and the log of `flash_log`: spare sectors of the chip replace worn ones.
+//! A layer between a chip and the log of `flash_log`: spare sectors of the chip replace worn ones. A chip whose sectors
+//! are small takes the log of `sector_log` too.
 #![tactic(auto)]
 
 mod map_device;
+mod small_spare_device;
 mod spare_calls;
 mod spare_device;
 mod spare_flash;
@@ -9,6 +11,7 @@ mod spare_map;
 mod spare_places;
 
 pub use map_device::{MapDevice, SparePart};
+pub use small_spare_device::SmallSpareDevice;
 pub use spare_calls::{SectorMap, learn};
 pub use spare_device::{SpareDevice, SpareSocket};
 pub use spare_flash::SpareFlash;

@@ -7,11 +7,13 @@ ghost use Rattle.flash_device.specs.ProgrammedRuns.{IsProgramRun};
 ghost use Rattle.flash_device.specs.declared.flash.TheConstants.{BLANK};
 ghost use Rattle.spare_sectors.specs.SpareMaps.{HasSpares, TakesNone, TakesSpare};
 
+use crate::small_spare_device::SmallSpareDevice;
 use crate::spare_calls::{SectorMap, erase_at, program_at, read_at};
 use crate::spare_device::{SpareDevice, SpareSocket};
 use crate::spare_places::start_of;
 use flash_device::{Flash, FlashSocket, PageTable};
 use nvm_board::DeviceErr;
+use sector_log::SectorFlash;
 
 /// A flash over a device with spare sectors. A sector that can't be erased is put into a spare one.
 #[derive(Drop)]
@@ -182,4 +184,22 @@ impl<D: SpareSocket> FlashSocket for SpareFlash<D> {
     {
         self.device.power_off();
     }
+}
+
+impl<D: SmallSpareDevice> SectorFlash for SpareFlash<D> {
+    ghost use Rattle.std.proofs.Common.{arith};
+    ghost use Rattle.flash_device.specs.FlashBlocks.{steps_of};
+    ghost use Rattle.flash_device.specs.declared.layout.TheConstants.{STEP_PAGES};
+    ghost use Rattle.sector_log.specs.SectorSpares.{sector_lead};
+    ghost use Rattle.spare_sectors.specs.laws.SmallSpares.{parts_hold, parts_left};
+
+    ghost sectors_left = { D.sectors_left };
+
+    ghost sectors_hold = { λ turn n lt. parts_hold D.SLOTS D.SECTORS D.SECTOR_SLOTS D.SECTOR_WORDS D.SPARES
+        D.sectors_fit (STEP_PAGES + 2) turn n (omega (arith, lt, D.sectors_left)) D.sectors_hold };
+
+    ghost slots_left = { λ turn. parts_left D.SLOTS D.SECTORS D.SECTOR_SLOTS D.SECTOR_WORDS D.SPARES D.sectors_fit
+        (sector_lead D.SECTORS) turn (steps_of D.PAGES) D.sectors_left D.slots_left };
+
+    ghost copies_left = { D.copies_left };
 }

@@ -9,12 +9,13 @@ ghost use Rattle.program_units.specs.UnitStates.{CountsErase};
 ghost use Rattle.program_units.specs.UnitWords.{HasFreshUnits};
 ghost use Rattle.program_units.specs.declared.unit_frames.TheConstants.{FRAME_WORDS};
 
+use crate::small_spare_unit_device::SmallSpareUnitDevice;
 use crate::spare_frames::first_frame_of;
 use crate::spare_unit_calls::{erase_unit, program_unit, read_unit};
 use crate::spare_unit_device::{SpareUnitDevice, SpareUnitSocket};
 use flash_device::PageTable;
 use nvm_board::DeviceErr;
-use program_units::{UnitDevice, UnitSocket};
+use program_units::{SmallUnitDevice, UnitDevice, UnitSocket};
 use spare_sectors::{MapDevice, SectorMap};
 
 /// A device with program units over one that has spare sectors too. A sector that can't be erased is put into a spare
@@ -225,4 +226,22 @@ impl<D: SpareUnitSocket> UnitSocket for SpareUnits<D> {
     {
         self.device.power_off();
     }
+}
+
+impl<D: SmallSpareUnitDevice> SmallUnitDevice for SpareUnits<D> {
+    ghost use Rattle.std.proofs.Common.{arith};
+    ghost use Rattle.flash_device.specs.FlashBlocks.{steps_of};
+    ghost use Rattle.flash_device.specs.declared.layout.TheConstants.{STEP_PAGES};
+    ghost use Rattle.sector_log.specs.SectorSpares.{sector_lead};
+    ghost use Rattle.spare_units.specs.laws.SmallFrames.{frames_hold, frames_left};
+
+    ghost sectors_left = { D.sectors_left };
+
+    ghost sectors_hold = { λ turn n lt. frames_hold D.SLOTS D.SECTORS D.SECTOR_FRAMES D.SPARES D.sectors_fit
+        (STEP_PAGES + 2) turn n (omega (arith, lt, D.sectors_left)) D.sectors_hold };
+
+    ghost slots_left = { λ turn. frames_left D.SLOTS D.SECTORS D.SECTOR_FRAMES D.SPARES D.sectors_fit
+        (sector_lead D.SECTORS) turn (steps_of D.PAGES) D.sectors_left D.slots_left };
+
+    ghost copies_left = { D.copies_left };
 }

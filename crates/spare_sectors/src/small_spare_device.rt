@@ -1,0 +1,23 @@
+//! Flash devices with spare sectors that are small.
+ghost use Rattle.std.specs.Prelude.{◌<◌, ◌≤◌, ◌+◌, ◌*◌};
+ghost use Rattle.flash_device.specs.FlashBlocks.{steps_of};
+ghost use Rattle.flash_device.specs.declared.layout.TheConstants.{SPARES as PASSED_SLOTS, STEP_PAGES};
+ghost use Rattle.sector_log.specs.SectorSpares.{sector_lead};
+
+use crate::spare_device::SpareDevice;
+
+/// A device with spare sectors, all of them small: an area has more of them than a move has steps, and the slots for a
+/// move behind those of the steps. `SpareFlash` makes a flash of small sectors of it.
+pub trait SmallSpareDevice: SpareDevice {
+    /// An area has at least one sector more than a move has steps.
+    ghost sectors_left: { steps_of Self.PAGES < Self.SECTORS };
+
+    /// A sector takes a slot for each page of a step, and two more.
+    ghost sectors_hold: { STEP_PAGES + 2 ≤ Self.SECTOR_SLOTS };
+
+    /// Behind the sectors of the steps, an area has more slots than the next move begins at.
+    ghost slots_left: { Self.SECTOR_SLOTS * steps_of Self.PAGES + sector_lead Self.SECTORS < Self.SLOTS };
+
+    /// Behind the slots that a renewal may take for its copies, an area has those that the next move begins at.
+    ghost copies_left: { Self.PAGES + PASSED_SLOTS + sector_lead Self.SECTORS ≤ Self.SLOTS };
+}
