@@ -10,6 +10,8 @@ from ..unproving.kit import Failed
 
 # docs/FLASH.md: a move copies 16 pages at a time
 LEAST_PAGES, MOST_PAGES, STEP_PAGES = 1024, 4096, 16
+# docs/FLASH.md, "Small sectors": the slots at which a move begins, beside one for each sector
+LEAD_SLOTS = 9
 # docs/FLASH.md: an area takes each page once, with slots to pass over, and a slot has a number of 16 bits
 SPARE_SLOTS = 256
 LEAST_SLOTS, MOST_SLOTS = LEAST_PAGES + SPARE_SLOTS, 65_535
@@ -105,10 +107,11 @@ def least_in_pace(pages: int, slots: int, sectors: Callable[[int], int]) -> int:
 
 def are_small(pages: int, slots: int, sector_words: int) -> bool:
     """Whether an area of so many slots has small sectors: one for each step of a move and at least one more, and behind
-    those of the steps a slot for each step of the next move, and one more (docs/FLASH.md, "Small sectors")."""
+    those of the steps, and behind the copies of a renewal, the slots at which the next move begins (docs/FLASH.md,
+    "Small sectors")."""
     steps, sectors = pages // STEP_PAGES, sectors_of(slots, sector_words)
-    first = -(-sector_words * steps // SLOT_WORDS)
-    return sectors > steps and slots > first + sectors + 1 and slots >= pages + SPARE_SLOTS + sectors
+    first, lead = -(-sector_words * steps // SLOT_WORDS), sectors + LEAD_SLOTS
+    return sectors > steps and slots > first + lead and slots >= pages + SPARE_SLOTS + lead
 
 
 def least_small(pages: int, sector_words: int) -> int:

@@ -23,7 +23,7 @@ FLASHES: dict[str, tuple[dict[str, int], int]] = {
     "one that programs whole units": ({"unit": 4}, 17),
     "one with spare sectors": ({"spares": 3, "sector_words": 4096}, 19),
     "one with both": ({"unit": 2, "spares": 3, "sector_words": 4096}, 19),
-    "one of small sectors": ({"slots": 1708, "sector_words": 512, "small": True}, 15),
+    "one of small sectors": ({"slots": 1717, "sector_words": 512, "small": True}, 15),
 }
 
 

@@ -40,24 +40,29 @@ def compare_port(room: Room) -> None:
 
 def compare_mistakes(room: Room) -> None:
     """What it refuses. By hand: 1,024 pages take 64 steps, whose sectors of 512 words have 1,638 slots and a part. With
-    1,707 slots an area has 67 sectors, and 1,639 + 67 + 1 slots aren't below 1,707; with 1,708 they are."""
+    1,716 slots an area has 68 sectors, and 1,639 + 68 + 9 slots aren't below 1,716; with 1,717 they are. With sectors
+    of 360 words a renewal takes more: with 1,364 slots an area has 76 sectors, and 1,280 + 76 + 9 are more than 1,364;
+    with 1,365 they aren't."""
     cases: tuple[tuple[list[object], str], ...] = (
         (["--small-sectors"], "give --flash too"),
         (["--flash", "--small-sectors", "--unit", 4], "neither --unit nor --spares"),
         (["--flash", "--small-sectors", "--spares", 4], "neither --unit nor --spares"),
         (["--flash", "--small-sectors"], "too many slots"),
         (["--flash", "--small-sectors", "--sector-words", 359], "at least 360 words"),
-        (["--flash", "--small-sectors", "--sector-words", 512], "at least 1,708 slots"),
-        (["--flash", "--small-sectors", "--sector-words", 512, "--slots", 1707], "at least 1,708 slots"),
+        (["--flash", "--small-sectors", "--sector-words", 512], "at least 1,717 slots"),
+        (["--flash", "--small-sectors", "--sector-words", 512, "--slots", 1716], "at least 1,717 slots"),
+        (["--flash", "--small-sectors", "--sector-words", 360, "--slots", 1364], "at least 1,365 slots"),
     )
     for words, why in cases:
         ran = tool(PORT, *words, room.folder / "new")
         lines = ran.stderr.splitlines()
         is_so = ran.returncode == 2 and len(lines) == 1 and why in lines[0]
         room.checks.check(is_so, f"tools/port {words}", ran.stderr)
-    least = room.folder / "least-port"
-    ran = tool(PORT, "--flash", "--small-sectors", "--sector-words", 512, "--slots", 1708, least)
-    room.checks.same((ran.returncode, ran.stdout, ran.stderr), (0, f"{least}\n", ""), "the least slots")
+    for sector_words, slots in ((512, 1717), (360, 1365)):
+        least = room.folder / f"least-port-{sector_words}"
+        ran = tool(PORT, "--flash", "--small-sectors", "--sector-words", sector_words, "--slots", slots, least)
+        wanted = (0, f"{least}\n", "")
+        room.checks.same((ran.returncode, ran.stdout, ran.stderr), wanted, f"the least slots of {sector_words} words")
 
 
 def compare(room: Room) -> None:
