@@ -1,6 +1,7 @@
 """The programs that the tests run: the C of a port over a flash."""
 from __future__ import annotations
 
+import shutil
 import subprocess
 import tempfile
 from collections.abc import Callable
@@ -64,6 +65,17 @@ def room_of(folder: Path) -> Room:
     write_port(folder / "port", over_flash.fill)
     subprocess.run([bench, "--card", folder / "factory.card"], stdin=subprocess.DEVNULL, check=True)
     return Room(folder, Checks(), bench)
+
+
+def room_of_port(room: Room, name: str, drivers: tuple[str, ...] = ()) -> Room:
+    """A room whose port is another one, with flashes of the tests beside its C."""
+    folder = room.folder / f"card-{name}"
+    folder.mkdir()
+    write_port(folder / "port", FILLS[name])
+    for it in drivers:
+        shutil.copyfile(PROGRAMS / it, folder / "port/device" / it)
+    shutil.copyfile(room.folder / "factory.card", folder / "factory.card")
+    return Room(folder, room.checks, room.bench)
 
 
 def build_module(folder: Path, name: str) -> None:

@@ -1,30 +1,14 @@
 """A card over a flash that programs whole units: it prints what the bench prints, and programs no unit twice."""
 from __future__ import annotations
 
-import os
-import shutil
-import subprocess
-from concurrent.futures import ThreadPoolExecutor
-
 from ...porting.slots import PAGES, SECTOR_WORDS, SLOTS, UNIT
-from ...porting.writing import write_port
 from ..chip.building import lacks
 from ..chip.units import PORT, tool
-from .building import FILLS, HOST, PROGRAMS, Room, library, made
-from .scripts import by_bench, on_card, uncut
+from .building import HOST, Room, room_of_port
+from .scripts import compare_host
 
 # a flash that traps at a unit that isn't blank, or was programmed since its erase
 DRIVER = "unit_flash.c"
-
-
-def room_of_units(room: Room) -> Room:
-    """A room whose port is over such a flash."""
-    folder = room.folder / "program-units"
-    folder.mkdir()
-    write_port(folder / "port", FILLS["units"])
-    shutil.copyfile(PROGRAMS / DRIVER, folder / "port/device" / DRIVER)
-    shutil.copyfile(room.folder / "factory.card", folder / "factory.card")
-    return Room(folder, room.checks, room.bench)
 
 
 def compare_port(room: Room) -> None:
@@ -62,13 +46,4 @@ def compare(room: Room) -> None:
     if missing := lacks(HOST):
         room.checks.skip("the card over a flash with units", f"{missing} isn't installed")
         return
-    units = room_of_units(room)
-    out, _ = library(units, HOST.name)
-    duties = made(units, HOST.name, out, DRIVER, "duties")
-    tried = subprocess.run([duties], capture_output=True, text=True, check=False)
-    room.checks.check(tried.stdout.endswith(" passed, 0 failed\n"), "the duties over such a flash", tried.stdout)
-    program, scripts = made(units, HOST.name, out, DRIVER, "card"), uncut()
-    with ThreadPoolExecutor(os.cpu_count()) as pool:
-        ran = list(pool.map(lambda it: on_card(HOST, program, it)[0], scripts.values()))
-    for (name, lines), printed in zip(scripts.items(), ran):
-        room.checks.same(printed, by_bench(room, lines), f"{name} over a flash with units")
+    compare_host(room, room_of_port(room, "units", (DRIVER,)), (DRIVER, DRIVER), "a flash with units")

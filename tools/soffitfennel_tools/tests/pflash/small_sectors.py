@@ -1,26 +1,11 @@
 """A card over a flash with small sectors, of which each step of a move has one: it prints what the bench prints."""
 from __future__ import annotations
 
-import os
-import shutil
-import subprocess
-from concurrent.futures import ThreadPoolExecutor
-
 from ...porting.slots import PAGES, SECTOR_WORDS, SLOTS
-from ...porting.writing import write_port
 from ..chip.building import lacks
 from ..chip.units import PORT, tool
-from .building import FILLS, HOST, Room, library, made
-from .scripts import by_bench, on_card, uncut
-
-
-def room_of_small(room: Room) -> Room:
-    """A room whose port is over such a flash."""
-    folder = room.folder / "small-sectors"
-    folder.mkdir()
-    write_port(folder / "port", FILLS["small"])
-    shutil.copyfile(room.folder / "factory.card", folder / "factory.card")
-    return Room(folder, room.checks, room.bench)
+from .building import HOST, Room, room_of_port
+from .scripts import compare_host
 
 
 def compare_port(room: Room) -> None:
@@ -72,13 +57,4 @@ def compare(room: Room) -> None:
     if missing := lacks(HOST):
         room.checks.skip("the card over small sectors", f"{missing} isn't installed")
         return
-    small = room_of_small(room)
-    out, _ = library(small, HOST.name)
-    duties = made(small, HOST.name, out, "flash.c", "duties")
-    tried = subprocess.run([duties], capture_output=True, text=True, check=False)
-    room.checks.check(tried.stdout.endswith(" passed, 0 failed\n"), "the duties over small sectors", tried.stdout)
-    program, scripts = made(small, HOST.name, out, "flash.c", "card"), uncut()
-    with ThreadPoolExecutor(os.cpu_count()) as pool:
-        ran = list(pool.map(lambda it: on_card(HOST, program, it)[0], scripts.values()))
-    for (name, lines), printed in zip(scripts.items(), ran):
-        room.checks.same(printed, by_bench(room, lines), f"{name} over small sectors")
+    compare_host(room, room_of_port(room, "small"), ("flash.c", "flash.c"), "small sectors")

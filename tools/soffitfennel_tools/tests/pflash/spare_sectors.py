@@ -4,7 +4,6 @@ from __future__ import annotations
 
 import os
 import random
-import shutil
 import subprocess
 import threading
 import time
@@ -16,15 +15,14 @@ from pathlib import Path
 
 from ...card_image.flash import AREA_WORDS, MARK_WORDS, Flash
 from ...porting.slots import PAGES, SECTOR_WORDS, SLOTS, SPARE_SECTORS, set_size
-from ...porting.writing import write_port
 from ..chip.building import WARNINGS, lacks
 from ..chip.kills import DONE, READ, RIGHT, SELECT, update
 from ..chip.playing import Script, serial
 from ..chip.units import PORT, tool
-from .building import CHIP, FILLS, HOST, PROGRAMS, SPARES, Room, by_host, library, made
+from .building import CHIP, HOST, PROGRAMS, SPARES, Room, by_host, library, made, room_of_port
 from .emulating import BLANK, MARK, emulator, new_flash, port_of
 from .kills import Known, Life, Told, life_ended
-from .scripts import by_bench, on_card, uncut
+from .scripts import compare_host
 
 # a flash whose worn sectors a test chooses, and the words of a sector of qemu's bank
 DRIVER, DEVICE, WORDS = "worn_flash.c", "worn_flash.c bank_virt.c", 0x10000
@@ -82,16 +80,6 @@ def log_of(flash: Path) -> Flash:
             file.seek(4 * WORDS * place)
             words.frombytes(file.read(4 * size))
     return Flash(tuple(words))
-
-
-def room_of_spares(room: Room) -> Room:
-    """A room whose port is over such a flash."""
-    folder = room.folder / "spares"
-    folder.mkdir()
-    write_port(folder / "port", FILLS["spares"])
-    shutil.copyfile(PROGRAMS / DRIVER, folder / "port/device" / DRIVER)
-    shutil.copyfile(room.folder / "factory.card", folder / "factory.card")
-    return Room(folder, room.checks, room.bench)
 
 
 def compare_port(room: Room) -> None:
@@ -167,19 +155,6 @@ def compare_mistakes(room: Room) -> None:
         lines = ran.stderr.splitlines()
         is_so = ran.returncode == 2 and len(lines) == 1 and why in lines[0]
         room.checks.check(is_so, f"tools/port {words}", ran.stderr)
-
-
-def compare_scripts(room: Room, spares: Room) -> None:
-    """The duties of the port's functions over the example's flash, and the stored scripts on the card."""
-    out, _ = library(spares, HOST.name)
-    duties = made(spares, HOST.name, out, "flash.c", "duties")
-    tried = subprocess.run([duties], capture_output=True, text=True, check=False)
-    room.checks.check(tried.stdout.endswith(" passed, 0 failed\n"), "the duties over such a flash", tried.stdout)
-    program, scripts = made(spares, HOST.name, out, "flash.c", "card"), uncut()
-    with ThreadPoolExecutor(os.cpu_count()) as pool:
-        ran = list(pool.map(lambda it: on_card(HOST, program, it)[0], scripts.values()))
-    for (name, lines), printed in zip(scripts.items(), ran):
-        room.checks.same(printed, by_bench(room, lines), f"{name} over a flash with spare sectors")
 
 
 def played(program: Path, flash: Path, lines: Iterable[str]) -> list[str]:
@@ -350,12 +325,12 @@ def compare_writing(room: Room) -> None:
 
 def compare(room: Room, kills: int) -> None:
     """The stored scripts; and on qemu's flash, a card whose sectors wear out, and cards that are killed."""
-    spares = room_of_spares(room)
+    spares = room_of_port(room, "spares", (DRIVER,))
     compare_unstarted(spares)
     if missing := lacks(HOST):
         room.checks.skip("the card over a flash with spare sectors", f"{missing} isn't installed")
     else:
-        compare_scripts(room, spares)
+        compare_host(room, spares, ("flash.c", "flash.c"), "a flash with spare sectors")
     if missing := lacks(CHIP):
         room.checks.skip("worn sectors of a flash of qemu", f"{missing} isn't installed")
         return

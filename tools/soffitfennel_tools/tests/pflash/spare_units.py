@@ -2,17 +2,11 @@
 and programs no unit twice."""
 from __future__ import annotations
 
-import os
-import shutil
-import subprocess
-from concurrent.futures import ThreadPoolExecutor
-
 from ...porting.slots import SECTOR_WORDS, SPARE_SECTORS, UNIT
-from ...porting.writing import write_port
 from ..chip.building import WARNINGS, lacks
 from ..chip.units import PORT, tool
-from .building import FILLS, HOST, PROGRAMS, Room, by_host, library, made
-from .scripts import by_bench, on_card, uncut
+from .building import HOST, PROGRAMS, Room, by_host, room_of_port
+from .scripts import compare_host
 
 # a flash that traps at a unit that isn't blank, or was programmed since its erase; and one with worn sectors
 DRIVERS = SOUND, WORN = "unit_flash.c", "worn_units.c"
@@ -50,17 +44,6 @@ def compare_mistakes(room: Room) -> None:
         room.checks.check(is_so, f"tools/port --unit --spares {words}", ran.stderr)
 
 
-def room_of_both(room: Room) -> Room:
-    """A room whose port is over such a flash."""
-    folder = room.folder / "spare-units"
-    folder.mkdir()
-    write_port(folder / "port", FILLS["spare-units"])
-    for name in DRIVERS:
-        shutil.copyfile(PROGRAMS / name, folder / "port/device" / name)
-    shutil.copyfile(room.folder / "factory.card", folder / "factory.card")
-    return Room(folder, room.checks, room.bench)
-
-
 def compare(room: Room) -> None:
     """The port; the duties of its functions over the flash that traps; and the stored scripts over worn sectors."""
     compare_port(room)
@@ -68,13 +51,4 @@ def compare(room: Room) -> None:
     if missing := lacks(HOST):
         room.checks.skip("the card over a flash with units and spare sectors", f"{missing} isn't installed")
         return
-    both = room_of_both(room)
-    out, _ = library(both, HOST.name)
-    duties = made(both, HOST.name, out, SOUND, "duties")
-    tried = subprocess.run([duties], capture_output=True, text=True, check=False)
-    room.checks.check(tried.stdout.endswith(" passed, 0 failed\n"), "the duties over units and spares", tried.stdout)
-    program, scripts = made(both, HOST.name, out, WORN, "card"), uncut()
-    with ThreadPoolExecutor(os.cpu_count()) as pool:
-        ran = list(pool.map(lambda it: on_card(HOST, program, it)[0], scripts.values()))
-    for (name, lines), printed in zip(scripts.items(), ran):
-        room.checks.same(printed, by_bench(room, lines), f"{name} over worn sectors with units")
+    compare_host(room, room_of_port(room, "spare-units", DRIVERS), (SOUND, WORN), "worn sectors with units")
