@@ -1,0 +1,64 @@
+"""A private output stays private while it is written, also where the tool is killed, and the next one is written."""
+from __future__ import annotations
+
+import os
+import signal
+import subprocess
+import sys
+from pathlib import Path
+
+from .checks import TOP, Checks
+from .images import data_of, factory
+from .watched import CONTENT
+
+PROGRAM = "soffitfennel_tools.tests.card.watched"
+MODES = (0o600, 0o640, 0o604, 0o666)
+
+
+def watched(out: Path, *words: str) -> tuple[int, set[int]]:
+    """Writes an output: the status, and the modes of what lay beside it meanwhile."""
+    environment = {**os.environ, "PYTHONPATH": str(TOP / "tools"), "PYTHONDONTWRITEBYTECODE": "1"}
+    command = [sys.executable, "-m", PROGRAM, str(out), *words]
+    ran = subprocess.run(command, env=environment, capture_output=True, text=True, check=False)
+    return ran.returncode, {int(it, 8) for it in ran.stdout.split()}
+
+
+def of_modes(checks: Checks, folder: Path) -> None:
+    """Nobody may read it meanwhile who may not read the old one."""
+    out = folder / "out.svg"
+    for mode in MODES:
+        out.write_text("the old one", encoding="utf-8")
+        out.chmod(mode)
+        status, modes = watched(out)
+        what = f"an output over one of mode {mode:o}"
+        checks.compare(f"{what}: status, and whether it was seen", (0, True), (status, bool(modes)))
+        checks.compare(f"{what}: wider modes meanwhile", set(), {f"{it:o}" for it in modes if it & ~mode})
+        checks.compare(f"{what}: its mode and content", (mode, CONTENT), (out.stat().st_mode & 0o777, out.read_text()))
+        checks.compare(f"{what}: files beside it", [out], [*folder.iterdir()])
+
+
+def of_kills(checks: Checks, folder: Path) -> None:
+    """A kill leaves the old one as it was, and beside it a file that is as private. It hinders no later tool."""
+    card, out = folder / "some.card", folder / "out.svg"
+    card.write_bytes(data_of(factory()))
+    out.write_text("the old one", encoding="utf-8")
+    out.chmod(0o600)
+    status, _ = watched(out, "stop")
+    checks.compare("a killed tool: status and output", (-signal.SIGKILL, "the old one"), (status, out.read_text()))
+    left = sorted({*folder.iterdir()} - {card, out})
+    checks.compare("a killed tool leaves a private file", [0o600], [it.stat().st_mode & 0o777 for it in left])
+    ran = subprocess.run(
+        [TOP / "tools" / "card", "--pages", out, card], capture_output=True, text=True, check=False,
+    )
+    checks.compare("the next tool", (0, "", ""), (ran.returncode, ran.stdout, ran.stderr))
+    came = (out.stat().st_mode & 0o777, out.read_bytes()[:4])
+    checks.compare("its output", (0o600, b"<svg"), came)
+    checks.compare("files beside it", sorted({card, out, *left}), sorted(folder.iterdir()))
+
+
+def check(checks: Checks, folder: Path) -> None:
+    """All of them."""
+    for name, compare in (("modes", of_modes), ("killed", of_kills)):
+        room = folder / f"outputs-{name}"
+        room.mkdir()
+        compare(checks, room)
