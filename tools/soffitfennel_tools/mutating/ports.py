@@ -9,7 +9,7 @@ from functools import partial
 from pathlib import Path
 
 from ..chips.module import BOARD, FLASH
-from ..porting.over_flash import OWN_ON_FLASH, SPARES
+from ..porting.over_flash import OWN_ON_FLASH, SPARES, UNITS, own_crates
 from ..porting.over_flash import fill as fill_over_flash
 from ..porting.writing import OWN, TOP, fill, needed, write_port
 from .trying import BUILT, Crate, copy_part
@@ -30,6 +30,9 @@ PORTS = {
     "board": Port(fill, OWN, BOARD),
     "flash": Port(fill_over_flash, OWN_ON_FLASH, FLASH),
     "spares": Port(partial(fill_over_flash, spares=3), SPARES.own(), FLASH),
+    "small": Port(
+        partial(fill_over_flash, slots=2125, sector_words=1024, unit=2, small=True), own_crates(UNITS, True), FLASH,
+    ),
 }
 
 

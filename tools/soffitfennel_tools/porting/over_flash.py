@@ -10,9 +10,10 @@ from .writing import EXAMPLE, FILES, LICENSES, SUFFIX, TOP, copy_crates
 
 FLASH_FILES, FLASH_EXAMPLE = Path(__file__).with_name("flash_files"), TOP / "examples" / "flash"
 # the crates of the flash, and the crates of ours that each uses
+FLASH, CARD_LIBRARY = "device_flash", "card_device staticlib"
 OWN_ON_FLASH = {
-    "device_flash": "nvm_board flash_device",
-    "card_device staticlib": "nvm_board flash_log flash_board undo_journal device_flash t1_link card_start "
+    FLASH: "nvm_board flash_device",
+    CARD_LIBRARY: "nvm_board flash_log flash_board undo_journal device_flash t1_link card_start "
     "card_core card_turns",
 }
 # what differs there: the flash is made of what the device is
@@ -45,7 +46,7 @@ class Layer:
 
     def own(self) -> dict[str, str]:
         """The crates of the flash, and the crates of ours that each uses."""
-        return OWN_ON_FLASH | {"device_flash": f"nvm_board flash_device {self.below}"}
+        return OWN_ON_FLASH | {FLASH: f"{OWN_ON_FLASH[FLASH]} {self.below}"}
 
 
 READS_WORDS = "/* Reads a word. The address is below FLASH_WORDS. A word that an interrupted call left reads the " \
@@ -115,7 +116,7 @@ SPARES = Layer("spare_sectors", Path(__file__).with_name("spare_files"), 19, {
     "/* Waits for a message,": MAP_FUNCTIONS,
 })
 # both: a sector has whole slots of 32 words, and so has the map, one for each spare
-BOTH = f"{UNITS.below} {SPARES.below}"
+BOTH = f"{UNITS.below} {SPARES.below} spare_units"
 SPARE_UNITS = Layer(BOTH, Path(__file__).with_name("spare_unit_files"), 19, SPARES.readme, SPARES.header | {
     "FLASH_RECORD_WORDS = 18,": "FLASH_RECORD_WORDS = 24,",
     "FLASH_SLOT_WORDS = 20,": "FLASH_SLOT_WORDS = 32,",
@@ -135,16 +136,52 @@ SPARE_UNITS = Layer(BOTH, Path(__file__).with_name("spare_unit_files"), 19, SPAR
 # the layer of a flash that has units or not, and spare sectors or not
 LAYERS: dict[tuple[bool, bool], Layer | None] = {
     (False, False): None, (True, False): UNITS, (False, True): SPARES, (True, True): SPARE_UNITS}
-# small sectors, of which each step of a move has one: the flash says so, and the card has the board for it
-SMALL_FILES = Path(__file__).with_name("small_files")
-OWN_ON_SMALL = {
-    "device_flash": "nvm_board flash_device flash_area sector_log",
-    "card_device staticlib": f"{OWN_ON_FLASH['card_device staticlib']} sector_log sector_board",
-}
+
+
+@dataclass(frozen=True)
+class Small:
+    """How the crate of a flash says that its sectors are small, of which each step of a move has one: its files, and
+    what is called otherwise in them."""
+
+    files: Path
+    names: dict[str, dict[str, str]]
+
+
+SMALL_FILES, SMALL_SPARE_FILES = (Path(__file__).with_name(it) for it in ("small_files", "small_spare_files"))
+SMALL_LAW, SMALL_SPECS, SPECS = "src/small.rt", "specs/SmallSectors.antt", "specs/Lib.antt"
+SMALL = Small(SMALL_FILES, {SPECS: {"pub mod DeviceSectors": "pub mod DeviceSectors\npub mod SmallSectors"}})
+# of units: the same by the frames of a sector
+SMALL_UNITS = Small(SMALL_FILES, {
+    SPECS: {"pub mod DeviceFrames": "pub mod DeviceFrames\npub mod SmallSectors"},
+    SMALL_LAW: {"DeviceFlash": "DeviceUnits", "sector_log": "program_units", "SectorFlash": "SmallUnitDevice"},
+    SMALL_SPECS: {
+        "FlashBlocks.{area_size, steps_of}": "FlashBlocks.{steps_of}",
+        "SectorSpares.{sector_lead, spare_slot}": "SectorSpares.{sector_lead}",
+        "DeviceSectors": "DeviceFrames",
+        "spare_slot SLOTS SECTORS device_sector turn (steps_of PAGES)":
+        "device_sector (spare_sector SECTORS turn + steps_of PAGES) - device_sector (spare_sector SECTORS turn)\n   ",
+        "device_sector": "device_frame",
+        "SECTOR_WORDS": "SECTOR_FRAMES",
+        "area_size SLOTS": "SLOTS + 1",
+        "20 * (STEP_PAGES + 2)": "(STEP_PAGES + 2)",
+        "    omega (arith, this)":
+        "    let none : spare_sector SECTORS turn + 0 ≡ spare_sector SECTORS turn = omega arith in\n"
+        "    let first = begins turn 0 (omega arith) in\n"
+        "    let same = ap device_frame none in omega (arith, this, first, same)",
+    },
+})
+SMALL_SPARES = Small(SMALL_SPARE_FILES, {})
+SMALL_SPARE_UNITS = Small(SMALL_SPARE_FILES, {
+    SMALL_LAW: {"spare_sectors": "spare_units", "SmallSpareDevice": "SmallSpareUnitDevice"},
+})
+# by the same as the layers
+SMALLS = {
+    (False, False): SMALL, (True, False): SMALL_UNITS, (False, True): SMALL_SPARES, (True, True): SMALL_SPARE_UNITS}
+# the crates of ours that a flash of small sectors uses too, and the card over it
+SMALL_BELOW, SMALL_BOARDS = "flash_area sector_log", "sector_log sector_board"
 SMALL_BOARD = {"use flash_board::FlashBoard;": "use sector_board::SectorBoard as FlashBoard;"}
 SMALL_TEXTS = {
     "crates/device_flash/src/lib.rt": {"mod slots;": "mod slots;\nmod small;"},
-    "crates/device_flash/specs/Lib.antt": {"pub mod DeviceSectors": "pub mod DeviceSectors\npub mod SmallSectors"},
     "crates/card_device/src/board.rt": SMALL_BOARD | {
         "use flash_log::{FlashFault, FlashLog};":
         "use sector_log::{SectorFault as FlashFault, SectorLog as FlashLog};",
@@ -192,6 +229,24 @@ def take_texts(folder: Path, texts: dict[str, dict[str, str]]) -> None:
         (folder / place).write_text(text, encoding="utf-8")
 
 
+def take_names(crate: Path, names: dict[str, dict[str, str]]) -> None:
+    """Gives the crate of a flash the names of small sectors."""
+    for place, changes in names.items():
+        text = (crate / place).read_text(encoding="utf-8")
+        for old, new in changes.items():
+            assert old in text, old
+            text = text.replace(old, new)
+        (crate / place).write_text(text, encoding="utf-8")
+
+
+def own_crates(layer: Layer | None, small: bool) -> dict[str, str]:
+    """The crates of the flash, and the crates of ours that each uses."""
+    own = layer.own() if layer else OWN_ON_FLASH
+    if not small:
+        return own
+    return {FLASH: f"{own[FLASH]} {SMALL_BELOW}", CARD_LIBRARY: f"{own[CARD_LIBRARY]} {SMALL_BOARDS}"}
+
+
 def own_files(layer: Layer | None) -> dict[str, Path]:
     """The files of the port's own crates and its README, by their places there."""
     own = files_of(FLASH_FILES)
@@ -208,18 +263,19 @@ def fill(
 ) -> None:
     """Puts the files of a port into an empty folder, with other sizes of the flash and its board if given, and with
     program units of so many words, so many spare sectors, or small sectors, if it has such."""
-    layer = LAYERS[bool(unit), bool(spares)]
-    copy_crates(folder, OWN_ON_SMALL if small else layer.own() if layer else OWN_ON_FLASH)
+    layer, smaller = LAYERS[bool(unit), bool(spares)], SMALLS[bool(unit), bool(spares)] if small else None
+    copy_crates(folder, own_crates(layer, small))
     placed = {f"device/{name}": path for name, path in code().items()} | {it: TOP / it for it in LICENSES}
-    own = own_files(layer) | (files_of(SMALL_FILES) if small else {})
+    own = own_files(layer) | (files_of(smaller.files) if smaller else {})
     for place, path in (placed | own | SHARED).items():
         target = folder / place.removesuffix(SUFFIX)
         target.parent.mkdir(parents=True, exist_ok=True)
         shutil.copyfile(path, target)
     if layer:
         take_texts(folder, layer.texts())
-    if small:
+    if smaller:
         take_texts(folder, SMALL_TEXTS)
+        take_names(folder / "crates" / FLASH, smaller.names)
     sizes = ((PAGES, pages), (SLOTS, slots), (SECTOR_WORDS, sector_words), (UNIT, unit), (SPARE_SECTORS, spares))
     for size, given in sizes:
         if given:

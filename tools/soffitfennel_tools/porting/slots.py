@@ -20,6 +20,8 @@ MOST_SECTORS = 32_767
 # words of a slot and of a close mark, where the flash programs single words, and of each where it programs units
 SLOT_WORDS, MARK_WORDS, FRAME_WORDS = 20, 2, 32
 CRATE, HEADER = "crates/device_flash/src/slots.rt", "device/card_device.h"
+# (a port has it if its sectors are small)
+SMALL = "crates/device_flash/src/small.rt"
 
 
 @dataclass(frozen=True)
@@ -105,32 +107,41 @@ def least_in_pace(pages: int, slots: int, sectors: Callable[[int], int]) -> int:
     return slots
 
 
-def are_small(pages: int, slots: int, sector_words: int) -> bool:
+def slots_in(sectors: int, sector_words: int, unit: int | None = None, spares: int | None = None) -> int:
+    """The slots of an area that begin in its first sectors, so many."""
+    if unit or spares:
+        return sectors * (sector_words // (FRAME_WORDS if unit else SLOT_WORDS))
+    return -(-sectors * sector_words // SLOT_WORDS)
+
+
+def are_small(pages: int, slots: int, sector_words: int, unit: int | None = None, spares: int | None = None) -> bool:
     """Whether an area of so many slots has small sectors: one for each step of a move and at least one more, and behind
     those of the steps, and behind the copies of a renewal, the slots at which the next move begins (docs/FLASH.md,
     "Small sectors")."""
-    steps, sectors = pages // STEP_PAGES, sectors_of(slots, sector_words)
-    first, lead = -(-sector_words * steps // SLOT_WORDS), sectors + LEAD_SLOTS
+    steps, sectors = pages // STEP_PAGES, sectors_of(slots, sector_words, unit, spares)
+    first, lead = slots_in(steps, sector_words, unit, spares), sectors + LEAD_SLOTS
     return sectors > steps and slots > first + lead and slots >= pages + SPARE_SLOTS + lead
 
 
-def least_small(pages: int, sector_words: int) -> int:
+def least_small(pages: int, sector_words: int, unit: int | None = None, spares: int | None = None) -> int:
     """The least number of slots of an area with small sectors."""
-    slots = pages + SPARE_SLOTS
-    while not are_small(pages, slots, sector_words):
+    slots = max(pages + SPARE_SLOTS, slots_in(pages // STEP_PAGES, sector_words, unit, spares))
+    while not are_small(pages, slots, sector_words, unit, spares):
         slots += 1
     return slots
 
 
-def why_not_small(pages: int, slots: int, sector_words: int) -> str | None:
+def why_not_small(
+    pages: int, slots: int, sector_words: int, unit: int | None = None, spares: int | None = None,
+) -> str | None:
     """Why an area has no small sectors, if so. A step puts up to 17 records into its sector, and slots may straddle its
     ends."""
-    least_words = SLOT_WORDS * (STEP_PAGES + 2)
-    if sector_words < least_words:
-        return f"--sector-words {sector_words}: small sectors have at least {least_words} words"
-    if sector_words * (pages // STEP_PAGES) > MOST_SLOTS * SLOT_WORDS:
+    what, words = ("with units small", FRAME_WORDS) if unit else ("small", SLOT_WORDS)
+    if sector_words < words * (STEP_PAGES + 2):
+        return f"--sector-words {sector_words}: {what} sectors have at least {words * (STEP_PAGES + 2)} words"
+    if (least := least_small(pages, sector_words, unit, spares)) > MOST_SLOTS:
         return f"--sector-words {sector_words}: an area of {pages:,} pages has too many slots for small sectors"
-    if slots < (least := least_small(pages, sector_words)):
+    if slots < least:
         return f"with small sectors of {sector_words:,} words an area has at least {least:,} slots"
     return None
 
@@ -152,8 +163,10 @@ def check_slots(port: Path) -> None:
     if (port / CRATE).is_file():
         pages, slots, sector_words = (check_size(port, size) for size in (PAGES, SLOTS, SECTOR_WORDS))
         why, text = why_unfit(pages, slots), (port / CRATE).read_text(encoding="utf-8")
-        unit = check_size(port, UNIT) if UNIT.places[CRATE].search(text) else None
-        if SPARE_SECTORS.places[CRATE].search(text):
-            why = why or why_spares_unfit(slots, sector_words, check_size(port, SPARE_SECTORS), unit)
+        unit, spares = (check_size(port, it) if it.places[CRATE].search(text) else None for it in (UNIT, SPARE_SECTORS))
+        if spares:
+            why = why or why_spares_unfit(slots, sector_words, spares, unit)
+        if (port / SMALL).is_file():
+            why = why or why_not_small(pages, slots, sector_words, unit, spares)
         if why:
             raise Failed(f"{port / CRATE}: {why}")

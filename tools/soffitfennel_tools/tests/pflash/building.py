@@ -31,12 +31,17 @@ CHECKED = ("-fsanitize=address,undefined", "-fno-sanitize-recover=all")
 UNIT_WORDS, SPARES = 4, 6
 # small sectors of 2 KiB, of which an area has eight behind those of the steps
 SMALL_SLOTS, SMALL_WORDS = 1843, 512
+# the same of 4 KiB where the flash has units and spare sectors
+SMALL_FRAMES, SMALL_FRAME_WORDS = 2303, 1024
 FILLS: dict[str, Callable[[Path], None]] = {
     "flash": over_flash.fill,
     "units": partial(over_flash.fill, unit=UNIT_WORDS),
     "spares": partial(over_flash.fill, spares=SPARES),
     "spare-units": partial(over_flash.fill, unit=UNIT_WORDS, spares=SPARES),
     "small": partial(over_flash.fill, slots=SMALL_SLOTS, sector_words=SMALL_WORDS, small=True),
+    "small-spare-units": partial(
+        over_flash.fill, slots=SMALL_FRAMES, sector_words=SMALL_FRAME_WORDS, unit=UNIT_WORDS, spares=SPARES, small=True,
+    ),
 }
 
 

@@ -9,14 +9,12 @@ from pathlib import Path
 
 from ...chips.module import ALLOWED, FLASH
 from ...narrowing.building import TOP
-from ...porting.over_flash import fill
-from ...porting.writing import write_port
+from ...porting.over_flash import SPARE_UNITS, fill, own_crates
+from ...porting.writing import needed, write_port
 from ..chip.proving import checked
 from .building import Room
 
-BELOW = (
-    "nvm_board", "flash_device", "program_units", "spare_sectors", "flash_area", "flash_log", "sector_log",
-)
+BELOW = needed({FLASH: own_crates(SPARE_UNITS, True)[FLASH]})
 # what is asked of tools/port, and how many functions are proved then
 FLASHES: dict[str, tuple[dict[str, int], int]] = {
     "the flash of a port": ({}, 15),
@@ -24,6 +22,7 @@ FLASHES: dict[str, tuple[dict[str, int], int]] = {
     "one with spare sectors": ({"spares": 3, "sector_words": 4096}, 19),
     "one with both": ({"unit": 2, "spares": 3, "sector_words": 4096}, 19),
     "one of small sectors": ({"slots": 1717, "sector_words": 512, "small": True}, 15),
+    "one of small sectors with units": ({"unit": 2, "slots": 2125, "sector_words": 1024, "small": True}, 17),
 }
 
 

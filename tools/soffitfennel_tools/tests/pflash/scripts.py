@@ -41,14 +41,16 @@ def uncut() -> dict[str, list[str]]:
     return {name: lines for name, lines in stored_scripts() if not any(it.startswith("cut ") for it in lines)}
 
 
-def compare_host(room: Room, port: Room, drivers: tuple[str, str], over: str) -> None:
-    """The duties of a port's functions over the first flash, and the stored scripts on its card over the second one, on
-    this machine."""
+def compare_host(
+    room: Room, port: Room, drivers: tuple[str, str], over: str, more: dict[str, list[str]] | None = None,
+) -> None:
+    """The duties of a port's functions over the first flash; and the stored scripts, and more if given, on its card
+    over the second one, on this machine."""
     out, _ = library(port, HOST.name)
     duties = made(port, HOST.name, out, drivers[0], "duties")
     tried = subprocess.run([duties], capture_output=True, text=True, check=False)
     room.checks.check(tried.stdout.endswith(" passed, 0 failed\n"), f"the duties over {over}", tried.stdout)
-    program, scripts = made(port, HOST.name, out, drivers[1], "card"), uncut()
+    program, scripts = made(port, HOST.name, out, drivers[1], "card"), uncut() | (more or {})
     with ThreadPoolExecutor(os.cpu_count()) as pool:
         ran = list(pool.map(lambda it: on_card(HOST, program, it)[0], scripts.values()))
     for (name, lines), printed in zip(scripts.items(), ran):
