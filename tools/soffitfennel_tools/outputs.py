@@ -3,9 +3,9 @@ from __future__ import annotations
 
 import os
 import secrets
-import shutil
 import signal
 import sys
+from contextlib import suppress
 from pathlib import Path
 from typing import NoReturn
 
@@ -27,19 +27,36 @@ def write(path: Path, content: str | bytes) -> None:
 
 
 def put_in_place(path: Path, data: bytes) -> None:
-    """Writes a file under a name that nobody knows, and then gives it its own. One that is there keeps its mode, and
-    stays where it may not be written. Nobody may read the new one who may not read the old one."""
+    """Writes a file under a name that nobody knows, and then gives it its own. One that is there keeps its owner, its
+    group and its mode, and stays where it may not be written. Nobody may read the new one who may not read the old
+    one."""
     fresh = path.with_name(f".output.{secrets.token_hex(8)}")
     try:
-        mode = path.stat().st_mode & 0o777 if path.exists() else 0o666
+        old = path.stat() if path.exists() else None
+        mode = old.st_mode & 0o600 if old else 0o666
         with open(os.open(fresh, os.O_WRONLY | os.O_CREAT | os.O_EXCL, mode), "wb") as file:
+            if old:
+                take_over(file.fileno(), old)
             file.write(data)
-        if path.exists():
+        if old:
             os.close(os.open(path, os.O_WRONLY))
-            shutil.copymode(path, fresh)
         os.replace(fresh, path)
     finally:
         fresh.unlink(missing_ok=True)
+
+
+def take_over(file: int, old: os.stat_result) -> None:
+    """Gives a new file the owner, the group and the mode of an old one. Where it can't have the group, it may be read
+    by those who may read the old one whatever their group is."""
+    for owner in (old.st_uid, -1):
+        with suppress(PermissionError):
+            os.fchown(file, owner, old.st_gid)
+            break
+    mode = old.st_mode & 0o777
+    if os.fstat(file).st_gid != old.st_gid:
+        all_may = mode >> 3 & mode & 0o7
+        mode = mode & 0o700 | all_may << 3 | all_may
+    os.fchmod(file, mode)
 
 
 def show(tool: str, text: str) -> None:
