@@ -6,7 +6,7 @@ import subprocess
 import tempfile
 from collections.abc import Callable
 from concurrent.futures import ProcessPoolExecutor
-from dataclasses import dataclass
+from dataclasses import dataclass, field
 from functools import partial
 from pathlib import Path
 
@@ -47,11 +47,12 @@ FILLS: dict[str, Callable[[Path], None]] = {
 
 @dataclass
 class Room:
-    """A folder of the tests, with a port over a flash."""
+    """A folder of the tests, with a port over a flash, and the libraries that were built of it."""
 
     folder: Path
     checks: Checks
     bench: str
+    built: dict[str, tuple[Path, dict[str, Bound]]] = field(default_factory=dict)
 
     @property
     def port(self) -> Path:
@@ -98,12 +99,16 @@ def build_modules(folder: Path, names: set[str]) -> None:
 
 
 def library(room: Room, name: str) -> tuple[Path, dict[str, Bound]]:
-    """The card's library for a processor, in a folder with the factory card; and the bounds of its stack."""
+    """The card's library for a processor, in a folder with the factory card; and the bounds of its stack. It is built
+    once."""
+    if name in room.built:
+        return room.built[name]
     out = room.folder / name
     with tempfile.TemporaryDirectory(dir=room.folder) as place:
         built = build(room.port, TARGETS[name], out, False, Path(place))
     (out / "factory.card").write_bytes((room.folder / "factory.card").read_bytes())
-    return out, built.bounds
+    room.built[name] = out, built.bounds
+    return room.built[name]
 
 
 def made(room: Room, name: str, out: Path, device: str, what: str) -> Path:
