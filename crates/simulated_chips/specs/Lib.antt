@@ -7,5 +7,6 @@ pub mod SimStates
 pub mod SimUnitStates
 pub mod SmallSectorParts
 pub mod SmallStates
+pub mod UsedWordParts
 pub mod WideSectorParts
 pub mod WideStates

@@ -4,7 +4,7 @@ use Rattle.spare_sectors.specs.SpareStates.{SpareState}
 use Rattle.simulated_chips.specs.SimCuts.{cuts_set}
 use Rattle.simulated_chips.specs.declared.sim_spares.SimSpares.{SimSpares}
 
-abbrev pub sim_spares_state : SimSpares → SpareState
+abbrev pub sim_spares_state : {L M : Type 0} {g h : _} → SimSpares L M g h → SpareState
 sim_spares_state f = record {
   flash = record {
     words = f.words.items;

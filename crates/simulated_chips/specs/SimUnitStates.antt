@@ -4,7 +4,7 @@ use Rattle.program_units.specs.UnitStates.{UnitState}
 use Rattle.simulated_chips.specs.SimCuts.{cuts_set}
 use Rattle.simulated_chips.specs.declared.sim_units.SimUnits.{SimUnits}
 
-abbrev pub sim_units_state : {S : Type 0} {g : _} → SimUnits S g → UnitState
+abbrev pub sim_units_state : {S L : Type 0} {g h : _} → SimUnits S L g h → UnitState
 sim_units_state f = record {
   flash = record {
     words = f.words.items;

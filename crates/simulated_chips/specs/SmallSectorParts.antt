@@ -6,7 +6,7 @@ use Rattle.std.proofs.lemmas.Bool.{cases_lt, le-leb, lt-leb}
 use Rattle.flash_device.specs.FlashBlocks.{area_size}
 use Rattle.flash_device.specs.declared.layout.TheConstants.{STEP_PAGES}
 use Rattle.flash_area.specs.Spares.{spare_in, spare_sector}
-use Rattle.sector_log.specs.SectorSpares.{spare_slot}
+use Rattle.sector_log.specs.SectorSpares.{sector_lead, spare_slot}
 
 abbrev pub small_sector : ℕ → ℕ
 small_sector s = if nat_le s 79 then 512 * s
@@ -81,8 +81,8 @@ small_sectors_hold turn n low =
     let next = small_begins turn (n + 1) (omega (arith, low)) in
     omega (arith, this, next)
 
--- behind the sectors of the steps there are slots for the next move
-pub small_slots_left : (turn : ℕ) → spare_slot 2048 80 small_sector turn 64 + (80 + 1) < 2048
+-- behind the sectors of the steps there are more slots than the next move begins at
+pub small_slots_left : (turn : ℕ) → spare_slot 2048 80 small_sector turn 64 + sector_lead 80 < 2048
 small_slots_left turn =
     let this = small_begins turn 64 (omega arith) in
     omega (arith, this)

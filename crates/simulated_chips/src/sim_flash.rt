@@ -1,5 +1,6 @@
 //! A flash in working memory that leaves garbage where it loses power or fails.
-ghost use Rattle.std.specs.Prelude.{◌≡◌, ◌≢◌, ◌+◌, ◌-◌, ◌*◌, ◌≤◌, ◌<◌, length, IfOk, true, false};
+ghost use Rattle.std.specs.Prelude.{◌≡◌, ◌≢◌, ◌+◌, ◌-◌, ◌*◌, ◌≤◌, ◌<◌, ◌↔◌, length, true, false};
+ghost use Rattle.std.specs.Prelude.{Contains, IfOk, IsTrue};
 ghost use Rattle.nvm_board.specs.Facts.{AreWords};
 ghost use Rattle.flash_device.specs.FlashCalls.{SameElsewhere, IsThere, AreFilled};
 ghost use Rattle.simulated_chips.specs.SimSectorParts.{sim_sector};
@@ -190,7 +191,9 @@ impl SimFlash {
     }
 
     /// Returns true if one of the words of the flash itself is this one.
-    pub fn has_word(&self, word: u32) -> bool {
+    pub fn has_word(&self, word: u32) -> bool
+        ensures { IsTrue result ↔ Contains (sim_state self.now).words word }
+    {
         self.words.contains(&word)
     }
 

@@ -41,7 +41,7 @@ pub struct SimSpareUnits<S: UnitSize> {
     programs: Vec<u32>,
     map: Vec<u32>,
     /// The words that the device should have refused.
-    refused: u32,
+    refused: u64,
     dark: bool,
     /// The operations until the one that loses power, that one too; or 0.
     left: u32,
@@ -109,7 +109,9 @@ impl<S: UnitSize + Drop> SimSpareUnits<S> {
     }
 
     /// Returns the number of words that the device should have refused.
-    pub fn refused(&self) -> u32 {
+    pub fn refused(&self) -> u64
+        ensures { result ≡ self.now.refused }
+    {
         self.refused
     }
 }

@@ -1,36 +1,30 @@
 //! A device with program units in working memory, which leaves garbage where it loses power or fails.
-ghost use Rattle.std.specs.Prelude.{◌≡◌, ◌+◌, ◌-◌, ◌*◌, ◌≤◌, length, IfOk, true, false};
+ghost use Rattle.std.specs.Prelude.{◌≡◌, ◌+◌, ◌-◌, ◌*◌, ◌<◌, ◌≤◌, length, IfOk, true, false};
 ghost use Rattle.nvm_board.specs.Facts.{AreWords};
 ghost use Rattle.flash_device.specs.FlashCalls.{AreFilled, SameElsewhere};
 ghost use Rattle.program_units.specs.UnitWords.{HasFreshUnits};
-ghost use Rattle.simulated_chips.specs.SimFrameParts.{sim_frame};
-ghost use Rattle.simulated_chips.specs.declared.sim_units.TheConstants.{DEVICE_WORDS};
+ghost use Rattle.simulated_chips.specs.UsedWordParts.{used_at, used_in};
+ghost use Rattle.program_units.specs.UnitFrames.{device_size, frame_count};
+ghost use Rattle.program_units.specs.declared.unit_frames.TheConstants.{FRAME_WORDS};
 
 use crate::sim_flash::{after_one, blank_run, garble_run, next_random, put_run};
+use crate::unit_sectors::{SmallSectors, UnitSectors};
 use crate::unit_sizes::UnitSize;
 use flash_device::{BLANK, PageSlots};
 use nvm_board::DeviceErr;
-use program_units::{UnitDevice, UnitSocket};
+use program_units::{FRAME_WORDS, SmallUnitDevice, UnitDevice, UnitSocket};
 use std::alloc::{AllocError, Global};
-
-/// The number of slots of an area.
-const SLOTS: u16 = 1280;
-
-/// The number of sectors of an area.
-const SECTORS: u16 = 3;
-
-/// The number of words of the device.
-const DEVICE_WORDS: u32 = 82016;
 
 /// A device with program units in working memory. One operation loses power or fails, and leaves garbage. Words that
 /// are programmed though they are not blank, or were programmed since their erase, are counted.
 #[derive(Drop)]
-pub struct SimUnits<S: UnitSize> {
+pub struct SimUnits<S: UnitSize, L: UnitSectors> {
     size: S,
+    sectors: L,
     words: Vec<u32>,
     programs: Vec<u32>,
     /// The words that the device should have refused.
-    refused: u32,
+    refused: u64,
     dark: bool,
     /// The operations until the one that loses power or fails, that one too; or 0.
     left: u32,
@@ -40,8 +34,8 @@ pub struct SimUnits<S: UnitSize> {
     faults: u64,
     operations: u64,
     erases: u64,
-    ghost sized: { length words.items ≡ DEVICE_WORDS },
-    ghost counted: { length programs.items ≡ DEVICE_WORDS },
+    ghost sized: { length words.items ≡ device_size L.SLOTS },
+    ghost counted: { length programs.items ≡ device_size L.SLOTS },
     ghost words_fit: { AreWords words.items },
 }
 
@@ -57,60 +51,60 @@ pub fn count_run(programs: &mut Vec<u32>, at: usize, size: usize, number: u32)
     }
 }
 
+/// Returns true if a word is not blank, or was programmed since its erase.
+fn is_used(words: &[u32], programs: &[u32], at: usize) -> bool
+    requires { (at < length words.now) × (at < length programs.now) }
+    ensures { result ≡ used_at words.now programs.now at }
+{
+    words[at] != BLANK || programs[at] != 0
+}
+
 /// Returns the number of words that are not blank, or were programmed since their erase.
-pub fn used_words(words: &[u32], programs: &[u32], at: usize, size: usize) -> u32
+pub fn used_words(words: &[u32], programs: &[u32], at: usize, size: usize) -> u64
     requires words { at + size ≤ length words.now }
     requires programs { at + size ≤ length programs.now }
+    ensures { result ≡ used_in words.now programs.now at size }
 {
-    let mut used: u32 = 0;
+    let mut used: u64 = 0;
     for k in 0..size {
-        if words[at + k] != BLANK || programs[at + k] != 0 {
-            used = used.saturating_add(1);
+        if is_used(words, programs, at + k) {
+            used += 1;
         }
     }
     used
 }
 
-/// The first frame of a sector.
-fn frame(sector: u16) -> u32
-    ensures is { result ≡ sim_frame sector }
-    ensures most { 32 * result ≤ DEVICE_WORDS }
-{
-    if sector <= 2 * SECTORS {
-        427 * u32::from(sector)
-    } else {
-        DEVICE_WORDS / 32
-    }
-}
-
 /// Where a sector begins.
-fn start(sector: u16) -> usize
-    ensures { result ≡ 32 * sim_frame sector }
+fn start<L: UnitSectors>(sector: u16) -> usize
+    ensures is { result ≡ FRAME_WORDS * L.first_frame sector }
+    ensures most { result ≤ device_size L.SLOTS }
 {
-    (32 * frame(sector)) as usize
+    (FRAME_WORDS * L::first_frame_at(sector)) as usize
 }
 
 /// The number of words of a sector.
-fn size(sector: u16) -> usize
-    requires { sector ≤ 6 }
-    ensures is { result ≡ 32 * (sim_frame (sector + 1) - sim_frame sector) }
-    ensures fits { 32 * sim_frame sector + result ≤ DEVICE_WORDS }
+fn size<L: UnitSectors>(sector: u16) -> usize
+    requires { sector ≤ 2 * L.SECTORS }
+    ensures is { result ≡ FRAME_WORDS * (L.first_frame (sector + 1) - L.first_frame sector) }
+    ensures fits { FRAME_WORDS * L.first_frame sector + result ≤ device_size L.SLOTS }
 {
-    start(sector + 1) - start(sector)
+    start::<L>(sector + 1) - start::<L>(sector)
 }
 
-impl<S: UnitSize + Drop> SimUnits<S> {
+impl<S: UnitSize + Drop, L: UnitSectors + Drop> SimUnits<S, L> {
     ghost use Rattle.simulated_chips.specs.SimUnitStates.{sim_units_state};
 
     /// Returns a blank device, which leaves garbage by this seed.
-    pub fn new(alloc: Global, size: S, seed: u64) -> Result<SimUnits<S>, AllocError>
+    pub fn new(alloc: Global, size: S, sectors: L, seed: u64) -> Result<SimUnits<S, L>, AllocError>
         ensures lit { IfOk result (λ f. (sim_units_state f).flash.dark ≡ false) }
         ensures fresh { IfOk result (λ f. HasFreshUnits S.WORDS (sim_units_state f)) }
     {
+        let words = start::<L>(2 * L::SECTORS + 1);
         Ok(SimUnits {
             size,
-            words: vec![in alloc; BLANK; DEVICE_WORDS as usize]?,
-            programs: vec![in alloc; 0; DEVICE_WORDS as usize]?,
+            sectors,
+            words: vec![in alloc; BLANK; words]?,
+            programs: vec![in alloc; 0; words]?,
             refused: 0,
             dark: false,
             left: 0,
@@ -133,20 +127,23 @@ impl<S: UnitSize + Drop> SimUnits<S> {
     }
 
     /// Returns the number of faults.
-    pub fn faults(&self) -> u64 {
+    pub fn faults(&self) -> u64
+        ensures { result ≡ (sim_units_state self.now).flash.faults }
+    {
         self.faults
     }
 
     /// Returns the number of words that the device should have refused.
-    pub fn refused(&self) -> u32 {
+    pub fn refused(&self) -> u64
+        ensures { result ≡ self.now.refused }
+    {
         self.refused
     }
 }
 
-impl<S: UnitSize + Drop> UnitDevice for SimUnits<S> {
-    ghost use Rattle.simulated_chips.specs.SimFrameParts.{sim_frame, sim_frames_rise};
+impl<S: UnitSize + Drop, L: UnitSectors + Drop> UnitDevice for SimUnits<S, L> {
     ghost use Rattle.simulated_chips.specs.SimUnitStates.{sim_units_state};
-    ghost use Rattle.std.proofs.Common.{lit<, lit≤, refl};
+    ghost use Rattle.std.proofs.Common.{lit≤, refl};
 
     type Table = PageSlots<1024>;
 
@@ -154,24 +151,24 @@ impl<S: UnitSize + Drop> UnitDevice for SimUnits<S> {
 
     const UNIT: u32 = S::WORDS;
 
-    const SLOTS: u16 = SLOTS;
+    const SLOTS: u16 = L::SLOTS;
 
-    const SECTORS: u16 = SECTORS;
+    const SECTORS: u16 = L::SECTORS;
 
     ghost PAGES = { 1024 };
 
     ghost UNIT = { S.WORDS };
 
-    ghost SLOTS = { 1280 };
+    ghost SLOTS = { L.SLOTS };
 
-    ghost SECTORS = { 3 };
+    ghost SECTORS = { L.SECTORS };
 
-    ghost first_frame = { sim_frame };
+    ghost first_frame = { L.first_frame };
 
     ghost state = { sim_units_state };
 
     fn first_frame_at(sector: u16) -> u32 {
-        frame(sector)
+        L::first_frame_at(sector)
     }
 
     fn read(&mut self, at: u32) -> Result<u32, DeviceErr> {
@@ -206,14 +203,14 @@ impl<S: UnitSize + Drop> UnitDevice for SimUnits<S> {
         self.erases = self.erases.saturating_add(1);
         self.operations = self.operations.saturating_add(1);
         self.random = next_random(self.random);
-        count_run(&mut self.programs, start(sector), size(sector), 0);
+        count_run(&mut self.programs, start::<L>(sector), size::<L>(sector), 0);
         let stops = self.left == 1;
         if stops && !self.fails {
             self.left = 0;
             garble_run(
                 &mut self.words,
-                start(sector),
-                size(sector),
+                start::<L>(sector),
+                size::<L>(sector),
                 &[],
                 self.random,
             );
@@ -224,15 +221,15 @@ impl<S: UnitSize + Drop> UnitDevice for SimUnits<S> {
         if stops && self.faults < u64::MAX {
             garble_run(
                 &mut self.words,
-                start(sector),
-                size(sector),
+                start::<L>(sector),
+                size::<L>(sector),
                 &[],
                 self.random,
             );
             self.faults += 1;
             return Err(DeviceErr::Fault);
         }
-        blank_run(&mut self.words, start(sector), size(sector));
+        blank_run(&mut self.words, start::<L>(sector), size::<L>(sector));
         Ok(())
     }
 
@@ -244,16 +241,16 @@ impl<S: UnitSize + Drop> UnitDevice for SimUnits<S> {
 
     ghost table_fits = { λ t. t.sized };
 
-    ghost slots_fit = { (lit< tt, lit< tt) };
+    ghost slots_fit = { L.slots_fit };
 
     ghost unit_fits = { S.fits };
 
-    ghost sectors_rise = { sim_frames_rise };
+    ghost sectors_rise = { L.sectors_rise };
 
-    ghost sectors_fit = { (refl, refl, refl, refl, lit< tt, lit< tt) };
+    ghost sectors_fit = { L.sectors_fit };
 }
 
-impl<S: UnitSize + Drop> UnitSocket for SimUnits<S> {
+impl<S: UnitSize + Drop, L: UnitSectors + Drop> UnitSocket for SimUnits<S, L> {
     fn light(&mut self) {
         self.dark = false;
     }
@@ -261,4 +258,17 @@ impl<S: UnitSize + Drop> UnitSocket for SimUnits<S> {
     fn power_off(&mut self) {
         self.dark = true;
     }
+}
+
+impl<S: UnitSize + Drop> SmallUnitDevice for SimUnits<S, SmallSectors> {
+    ghost use Rattle.simulated_chips.specs.SimFrameParts.{small_frames_hold, small_frames_left};
+    ghost use Rattle.std.proofs.Common.{lit<, lit≤};
+
+    ghost sectors_left = { lit< tt };
+
+    ghost sectors_hold = { small_frames_hold };
+
+    ghost slots_left = { small_frames_left };
+
+    ghost copies_left = { lit≤ tt };
 }

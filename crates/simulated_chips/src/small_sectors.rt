@@ -45,6 +45,8 @@ pub struct SmallSectorFlash {
     faults: u64,
     operations: u64,
     erases: u64,
+    /// The sector whose erase was begun last.
+    erased: u16,
     reads: u64,
     /// The words that were programmed though they were not blank, and the calls without power.
     refused: u64,
@@ -102,6 +104,7 @@ impl SmallSectorFlash {
             faults: 0,
             operations: 0,
             erases: 0,
+            erased: 0,
             reads: 0,
             refused: 0,
         })
@@ -147,6 +150,13 @@ impl SmallSectorFlash {
         ensures { result ≡ (small_state self.now).erases }
     {
         self.erases
+    }
+
+    /// Returns the sector whose erase was begun last.
+    pub fn erased(&self) -> u16
+        ensures { result ≡ self.now.erased }
+    {
+        self.erased
     }
 
     /// Returns the number of faults.
@@ -257,6 +267,7 @@ impl Flash for SmallSectorFlash {
 
     fn erase(&mut self, sector: u16) -> Result<(), DeviceErr> {
         self.erases = self.erases.saturating_add(1);
+        self.erased = sector;
         let from = start(sector);
         if let Err(err) = self.begin(from as u32) {
             garble_run(&mut self.words, from, size(sector), &[], self.random);
