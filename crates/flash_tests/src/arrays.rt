@@ -8,30 +8,14 @@ use flash_log::{FlashLog, format_flash};
 use nvm_board::{Board, DeviceErr};
 use program_units::UnitFlash;
 use simulated_boards::RamBoard;
-use simulated_chips::{Eight, Four, One, SimFlash, SimUnits, Two, UnitSize};
+use simulated_chips::{
+    Eight, Four, LargeSectors, One, Random, SimFlash, SimUnits, Two, UnitSectors, UnitSize,
+};
 use std::alloc::Global;
 use std::test::Fail;
 
 /// The writes of a round, if no power loss ends it.
 const WRITES: u32 = 400;
-
-/// Random numbers.
-#[derive(Drop)]
-pub struct Random(pub u64);
-
-impl Random {
-    /// Returns a number below `end`.
-    pub fn below(&mut self, end: u32) -> u32
-        requires { 0 < end }
-        ensures { result < end }
-    {
-        self.0 = self
-            .0
-            .wrapping_mul(6_364_136_223_846_793_005)
-            .wrapping_add(1_442_695_040_888_963_407);
-        (self.0 >> 33) as u32 % end
-    }
-}
 
 /// A flash on which an operation can be set to lose power or to fail.
 pub trait StoppedFlash: FlashSocket {
@@ -47,8 +31,8 @@ impl StoppedFlash for SimFlash {
     }
 }
 
-impl<S: UnitSize + Drop> StoppedFlash for UnitFlash<SimUnits<S>> {
-    fn stopped_at(self, k: u32, fails: bool) -> UnitFlash<SimUnits<S>> {
+impl<S: UnitSize + Drop, L: UnitSectors + Drop> StoppedFlash for UnitFlash<SimUnits<S, L>> {
+    fn stopped_at(self, k: u32, fails: bool) -> UnitFlash<SimUnits<S, L>> {
         let mut device = self.into_device();
         device.set(k, fails);
         UnitFlash::new(device)
@@ -150,9 +134,14 @@ fn writes_are_whole_or_not_begun(rt: HostRuntime) -> Result<(), Fail> {
 }
 
 /// Plays rounds on a device with program units. None is programmed twice.
-fn play_on_units<S: UnitSize + Drop>(alloc: Global, size: S, rounds: u32) -> Result<(), Fail> {
+fn play_on_units<S: UnitSize + Drop, L: UnitSectors + Drop>(
+    alloc: Global,
+    size: S,
+    sectors: L,
+    rounds: u32,
+) -> Result<(), Fail> {
     let mut random = Random(11);
-    let mut flash = UnitFlash::new(SimUnits::new(alloc, size, 11)?);
+    let mut flash = UnitFlash::new(SimUnits::new(alloc, size, sectors, 11)?);
     format_flash(&mut flash)?;
     let mut ram = RamBoard::new(alloc)?;
     for _ in 0..rounds {
@@ -167,10 +156,10 @@ fn play_on_units<S: UnitSize + Drop>(alloc: Global, size: S, rounds: u32) -> Res
 
 #[test]
 fn units_are_programmed_once(rt: HostRuntime) -> Result<(), Fail> {
-    play_on_units(rt.alloc(), One, 20)?;
-    play_on_units(rt.alloc(), Two, 20)?;
-    play_on_units(rt.alloc(), Four, 60)?;
-    play_on_units(rt.alloc(), Eight, 60)
+    play_on_units(rt.alloc(), One, LargeSectors, 20)?;
+    play_on_units(rt.alloc(), Two, LargeSectors, 20)?;
+    play_on_units(rt.alloc(), Four, LargeSectors, 60)?;
+    play_on_units(rt.alloc(), Eight, LargeSectors, 60)
 }
 
 /// Writes one word to a random page below 512, so many times.

@@ -1,5 +1,4 @@
-//! Tests of the board on a flash that leaves garbage, of the log of small sectors and its board, and of chips with
-//! program units or worn sectors.
+//! Tests of the board on a flash that leaves garbage, and of chips with program units or worn sectors.
 #![tactic(auto)]
 
 #[cfg(test)]
@@ -8,8 +7,6 @@ mod arrays;
 mod many_pages;
 #[cfg(test)]
 mod renewals;
-#[cfg(test)]
-mod sector_sessions;
 #[cfg(test)]
 mod sessions;
 #[cfg(test)]

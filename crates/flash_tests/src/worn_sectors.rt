@@ -4,9 +4,12 @@ use flash_board::FlashBoard;
 use flash_device::FlashSocket;
 use flash_log::{FlashLog, format_flash};
 use nvm_board::{Board, DeviceErr};
-use simulated_chips::SimSpares;
+use simulated_chips::{LargeSpares, SimSpares};
 use spare_sectors::SpareFlash;
 use std::test::Fail;
+
+/// A device with two sectors in each area.
+type LargeDevice = SimSpares<LargeSpares>;
 
 /// The pages that are written.
 const PAGES: [u16; 4] = [0, 7, 8, 1023];
@@ -15,7 +18,7 @@ const PAGES: [u16; 4] = [0, 7, 8, 1023];
 const OPERATIONS: u32 = 32;
 
 /// Returns the board of a device whose power comes back. All but the device is lost.
-fn lit_again(device: SimSpares) -> Result<FlashBoard<SpareFlash<SimSpares>>, Fail> {
+fn lit_again(device: LargeDevice) -> Result<FlashBoard<SpareFlash<LargeDevice>>, Fail> {
     let mut flash = SpareFlash::new(device);
     flash.light();
     match FlashLog::open(flash) {
@@ -25,12 +28,12 @@ fn lit_again(device: SimSpares) -> Result<FlashBoard<SpareFlash<SimSpares>>, Fai
 }
 
 /// Returns the device of a board.
-fn device_of(board: FlashBoard<SpareFlash<SimSpares>>) -> SimSpares {
+fn device_of(board: FlashBoard<SpareFlash<LargeDevice>>) -> LargeDevice {
     board.into_log().into_flash().into_device()
 }
 
 /// Returns a device with a board on it, of which each page has the word.
-fn written_device(device: SimSpares, word: u32) -> Result<SimSpares, Fail> {
+fn written_device(device: LargeDevice, word: u32) -> Result<LargeDevice, Fail> {
     let mut flash = SpareFlash::new(device);
     flash.light();
     format_flash(&mut flash)?;
@@ -44,7 +47,7 @@ fn written_device(device: SimSpares, word: u32) -> Result<SimSpares, Fail> {
 }
 
 /// Returns true if each page has the word.
-fn have_word(board: &mut FlashBoard<SpareFlash<SimSpares>>, word: u32) -> bool {
+fn have_word(board: &mut FlashBoard<SpareFlash<LargeDevice>>, word: u32) -> bool {
     for page in PAGES {
         if page < board.pages() && board.read(16 * page + 2) != Ok(word) {
             return false;
@@ -55,7 +58,7 @@ fn have_word(board: &mut FlashBoard<SpareFlash<SimSpares>>, word: u32) -> bool {
 
 #[test]
 fn spares_replace_worn_sectors(rt: HostRuntime) -> Result<(), Fail> {
-    let mut device = written_device(SimSpares::new(rt.alloc(), 5)?, 77)?;
+    let mut device = written_device(SimSpares::new(rt.alloc(), LargeSpares, 5)?, 77)?;
     // The second time the first spare is worn.
     for sector in [3, 5] {
         device.wear(sector);
@@ -84,7 +87,10 @@ fn spares_replace_worn_sectors(rt: HostRuntime) -> Result<(), Fail> {
 fn power_losses_leave_the_words(rt: HostRuntime) -> Result<(), Fail> {
     for k in 1..=OPERATIONS {
         for sector in [2, 4] {
-            let mut device = written_device(SimSpares::new(rt.alloc(), u64::from(k))?, k)?;
+            let mut device = written_device(
+                SimSpares::new(rt.alloc(), LargeSpares, u64::from(k))?,
+                k,
+            )?;
             device.wear(sector);
             device.set(k);
             let mut board = lit_again(device)?;
