@@ -1,6 +1,7 @@
 //! The board on a flash.
 ghost use Rattle.std.specs.Prelude.{◌≡◌, ◌+◌, ◌-◌, ◌*◌, ◌<◌, ◌≤◌, ◌↔◌, ◌⊎◌, ℕ, if◌then◌else◌, true, false, length};
-ghost use Rattle.std.specs.Prelude.{All, Contains, IfOk, IsErr, IsTrue, OnErr, OnOk, slice_index};
+ghost use Rattle.std.specs.Prelude.{All, Contains, IfOk, IsErr, IsErrOf, IsTrue, OnErr, OnOk, slice_index};
+ghost use Rattle.nvm_board.specs.declared.board.DeviceErr.TheVariants as DeviceErr;
 ghost use Rattle.nvm_board.specs.declared.board.TheConstants.{SECRETS, COUNT_END};
 ghost use Rattle.nvm_board.specs.Facts.{AreWords, IsMemory};
 
@@ -42,7 +43,7 @@ impl<F: Flash> FlashBoard<F> {
     ghost use Rattle.flash_board.specs.FlashFacts.{flash_facts, log_state, made_of};
     ghost use Rattle.flash_board.specs.FlashFollowers.{board_is_kept};
     ghost use Rattle.flash_log.specs.Paces.{HasFreeSlots, IsInPace, IsRoomy, RenewsOnly, StandsInPace, failed_since};
-    ghost use Rattle.flash_log.specs.Paces.{lead_of, lost_since};
+    ghost use Rattle.flash_log.specs.Paces.{lead_of, lost_since, move_steps_of};
     ghost use Rattle.flash_log.specs.Renewals.{HoldsOnlyPages};
     ghost use Rattle.flash_log.specs.SlotsInTurn.{WillTake};
 
@@ -144,10 +145,10 @@ impl<F: Flash> FlashBoard<F> {
             → StandsInPace F.PAGES F.SLOTS F.SECTORS F.sector_start extra (log_state self.old)
             → StandsInPace F.PAGES F.SLOTS F.SECTORS F.sector_start
             (extra + lost_since (log_state self.old).flash (log_state self.new).flash) (log_state self.new) }
-        ensures work { Costs (2 * F.PAGES + 7 + 2 * F.SECTORS + 33 * lead_of F.PAGES F.SECTORS) 2
+        ensures work { Costs (2 * F.PAGES + 7 + 2 * F.SECTORS + 33 * move_steps_of F.PAGES F.SECTORS) 2
             (log_state self.old).flash (log_state self.new).flash }
         ensures erases { (log_state self.new).flash.erases
-            ≤ (log_state self.old).flash.erases + 2 * F.SECTORS + 1 + lead_of F.PAGES F.SECTORS }
+            ≤ (log_state self.old).flash.erases + 2 * F.SECTORS + 1 + move_steps_of F.PAGES F.SECTORS }
         // With the slots for a move none is under way.
         ensures calm { HasFreeSlots F.SLOTS (lead_of F.PAGES F.SECTORS) (log_state self.old).raw
             → RenewsOnly F.PAGES F.SECTORS (log_state self.old).flash (log_state self.new).flash }
@@ -234,7 +235,7 @@ impl<F: Flash> Board for FlashBoard<F> {
     ghost use Rattle.flash_log.specs.Paces.{TakesSlot, extra_of, failed_since, lead_of, lost_since};
     ghost use Rattle.flash_log.specs.Places.{FindsFree};
     ghost use Rattle.flash_log.specs.SlotsInTurn.{TakesInTurn, WillTake};
-    ghost use Rattle.flash_log.specs.declared.steps.TheConstants.{TRIES};
+    ghost use Rattle.flash_log.specs.declared.ahead.TheConstants.{TRIES};
     ghost use Rattle.flash_board.specs.laws.Boards.{flash_is_board};
     ghost use Rattle.nvm_board.specs.BoardCalls.{Compares, FitsPage, TellsWord, Writes};
     ghost use Rattle.nvm_board.specs.Facts.{address};
@@ -299,13 +300,16 @@ impl<F: Flash> Board for FlashBoard<F> {
     fn write(&mut self, page: u16, first: u8, words: &[u32]) -> Result<(), DeviceErr>
         requires { FitsPage page first words.now (flash_facts self.old) }
         ensures writes { Writes (address page first) words.now (flash_facts self.old) (flash_facts self.new) result }
-        ensures work { Costs (2 * F.PAGES + 40 + F.SECTORS) (2 * F.PAGES + 42 + F.SECTORS) (log_state self.old).flash
-            (log_state self.new).flash }
-        // In pace a write is short, and longer only by what each Fault of the flash costs. Out of pace one without a
-        // Fault is short too, or is in pace behind it.
+        // With the slots outside a move it gives up only after as many Faults of the flash as a record has tries.
+        ensures keeps_trying { IsErrOf result DeviceErr.Fault → (n : ℕ) → n + lead_of F.PAGES F.SECTORS < F.SLOTS
+            → WillTake F.SLOTS (log_state self.old) n
+            → (log_state self.old).flash.faults + TRIES ≤ (log_state self.new).flash.faults }
+        ensures work { Costs (2 * F.PAGES + 40 + F.SECTORS) 2 (log_state self.old).flash (log_state self.new).flash }
+        // In pace a write is short, and longer only by two programs for each Fault of the flash. Out of pace one
+        // without a Fault is short too, or is in pace behind it.
         ensures pause { (extra : ℕ) → IsRoomy F.PAGES F.SLOTS F.SECTORS
             (extra + failed_since (log_state self.old).flash (log_state self.new).flash)
-            → Pauses 37 39 1 (log_state self.old).flash (log_state self.new).flash
+            → Pauses 37 2 (log_state self.old).flash (log_state self.new).flash
             (StandsInPace F.PAGES F.SLOTS F.SECTORS F.sector_start extra (log_state self.old))
             (((log_state self.new).paced ≡ true) × ((log_state self.new).extra
             ≤ extra + failed_since (log_state self.old).flash (log_state self.new).flash)) result }

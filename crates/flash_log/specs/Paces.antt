@@ -2,6 +2,7 @@
 use Rattle.std.specs.Prelude.{◌≡◌, ◌⊎◌, ◌<◌, ◌≤◌, ◌+◌, ◌-◌, ◌*◌, ℕ, Bool, true, false, List, Result, IsOk}
 use Rattle.std.specs.Prelude.{◌&&◌, ◌||◌, nat_eq, nat_le, not, if◌then◌else◌}
 use Rattle.nvm_board.specs.declared.board.DeviceErr.{DeviceErr}
+use Rattle.flash_log.specs.declared.ahead.TheConstants.{TRIES}
 use Rattle.flash_log.specs.declared.place.PageMap.{PageMap}
 use Rattle.flash_device.specs.declared.layout.TheConstants.{SPARES, STEP_PAGES}
 use Rattle.flash_device.specs.FlashBlocks.{steps_of}
@@ -24,9 +25,13 @@ pub record LogState : Type 0 where
   pub free : ℕ
   pub raw : List ℕ
 
--- The number of free slots at which a move begins: those that are written while it goes on.
+-- The most steps that a move takes. The first one may pass the turn to the witness.
+abbrev pub move_steps_of : ℕ → ℕ → ℕ
+move_steps_of pages sectors = sectors + steps_of pages + 1
+
+-- The number of free slots at which a move begins: one for each of its steps, and those of the tries of a record.
 abbrev pub lead_of : ℕ → ℕ → ℕ
-lead_of pages sectors = sectors + steps_of pages + 1
+lead_of pages sectors = move_steps_of pages sectors + TRIES
 
 -- An area takes each page once, one record more for each step that copies, those of steps that lose power, and those of
 -- the next move.
@@ -143,18 +148,22 @@ abbrev pub extra_slots : {T : Type 0} → PageMap T → ℕ
 extra_slots p = if p.ready then p.behind - copies_most p.copied 0 else 0
 
 -- At most so many programs and erases are begun, and so many more for each Fault of the flash. At most one of them is
--- an erase, of one sector, and so many more for each Fault.
-pub record IsBrief (most more again : ℕ) (old new : FlashState) : Type 0 where
+-- an erase, of one sector, however often the flash fails.
+pub record IsBrief (most more : ℕ) (old new : FlashState) : Type 0 where
   pub work : Costs most more old new
-  pub erases : new.erases + again * old.faults ≤ old.erases + 1 + again * new.faults
+  pub erases : new.erases ≤ old.erases + 1
 
 -- How long a write takes. In pace it is short at every exit, and the log is in pace behind it. Out of pace it is short
 -- too, or the log is in pace behind it, unless the flash fails.
-pub record Pauses {T : Type 0} (most more again : ℕ) (old new : FlashState) (before after : Type 0)
+pub record Pauses {T : Type 0} (most more : ℕ) (old new : FlashState) (before after : Type 0)
     (result : Result T DeviceErr) : Type 0 where
-  pub short : before → IsBrief most more again old new
+  pub short : before → IsBrief most more old new
   pub stays : before → IsOk result → after
-  pub long : new.faults ≡ old.faults → IsOk result → IsBrief most more again old new ⊎ after
+  pub long : new.faults ≡ old.faults → IsOk result → IsBrief most more old new ⊎ after
+
+-- No copy may be older but that of one page, which a record puts again.
+abbrev pub OwnsOlder : {T : Type 0} → ℕ → PageMap T → Type 0
+OwnsOlder page p = (p.older ≡ 0) ⊎ (p.older ≡ page + 1)
 
 -- The area in use has as many free slots as before, or the pages moved: each took one slot of the other area, each step
 -- that copied one more, and those that lost power the rest. Then no slot of the next area is given up.

@@ -8,6 +8,7 @@ ghost use Rattle.flash_device.specs.FlashLogs.{is_marked as has_mark};
 ghost use Rattle.flash_log.specs.Paces.{EndsStep, HasStepped, HasMoved, IsCaughtUp, IsInPace, IsRoomy, KeepsFree};
 ghost use Rattle.flash_log.specs.Paces.{KeepsRoom};
 ghost use Rattle.flash_log.specs.Paces.{MovesWell, StandsSo, StaysCopied, failed_since, lead_of, lost_since};
+ghost use Rattle.flash_log.specs.Paces.{move_steps_of};
 ghost use Rattle.flash_device.specs.PageTables.{IsPageTable};
 ghost use Rattle.flash_log.specs.Places.{IsLog};
 ghost use Rattle.flash_log.specs.Rings.{IsRing};
@@ -19,6 +20,9 @@ use crate::turns::pass_witness;
 use flash_area::{close, first_sector_of_spare, home, put_in_spare, record_of, scan, spare};
 use flash_device::{Flash, PageTable, STEP_PAGES, copy_steps};
 use nvm_board::DeviceErr;
+
+/// The number of times that a write is tried, until a Fault of the flash is returned.
+pub const TRIES: u8 = 8;
 
 /// Copies a page to a free slot of the other area below `end`, and returns the first one that is free after it.
 fn copy_ahead<F: Flash>(
@@ -101,11 +105,19 @@ fn copy_step<F: Flash>(
     Ok(free)
 }
 
-/// The number of free slots at which the move begins: those that are written while it goes on.
+/// The most steps that a move takes: an erase of each sector, the copies, and one that passes the turn to the witness.
+pub fn move_steps<F: Flash>() -> u16
+    ensures { result ≡ move_steps_of F.PAGES F.SECTORS }
+{
+    F::SECTORS + copy_steps::<F>() + 1
+}
+
+/// The number of free slots at which a move begins: one for each of its steps, and those of the tries of a write that
+/// may fail.
 pub fn lead<F: Flash>() -> u16
     ensures { result ≡ lead_of F.PAGES F.SECTORS }
 {
-    F::SECTORS + copy_steps::<F>() + 1
+    move_steps::<F>() + u16::from(TRIES)
 }
 
 /// Passes the turn to the other area, which has all pages.

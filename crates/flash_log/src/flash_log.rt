@@ -6,13 +6,14 @@ ghost use Rattle.nvm_board.specs.History.{written};
 ghost use Rattle.flash_device.specs.FlashCalls.{Costs, Lights, Tries};
 ghost use Rattle.flash_log.specs.Paces.{CopiesNoPage, HasFreeSlots, IsRoomy, Pauses, RegainsSlots, RenewsOnly};
 ghost use Rattle.flash_log.specs.Paces.{TakesSlot};
-ghost use Rattle.flash_log.specs.Paces.{extra_of, failed_since, lead_of, lost_since};
+ghost use Rattle.flash_log.specs.Paces.{extra_of, failed_since, lead_of, lost_since, move_steps_of};
 ghost use Rattle.flash_log.specs.Renewals.{HoldsOnlyPages};
-ghost use Rattle.flash_log.specs.declared.steps.TheConstants.{TRIES};
+ghost use Rattle.flash_log.specs.declared.ahead.TheConstants.{TRIES};
 
 use crate::place::PageMap;
 use crate::renewal::renew_pages;
-use crate::steps::{read_at, write_at};
+use crate::steps::read_at;
+use crate::tries::write_at;
 use crate::turns::has_ring;
 use flash_device::{CutFlash, Flash, FlashSocket, FollowedFlash, PageTable};
 use nvm_board::DeviceErr;
@@ -185,14 +186,16 @@ impl<F: Flash> FlashLog<F> {
             ⊎ (self.new.flash.words ≡ written self.old.flash.words (16 * page + first) words.now) }
         ensures done { OnOk result (self.new.flash.words
             ≡ written self.old.flash.words (16 * page + first) words.now) }
-        ensures light { Tries TRIES self.old.flash self.new.flash result }
-        ensures work { Costs (2 * F.PAGES + 40 + F.SECTORS) (2 * F.PAGES + 42 + F.SECTORS) self.old.flash
-            self.new.flash }
-        // In pace a write begins at most 37 programs and erases, one of them an erase, whatever else it comes to. For
-        // each Fault of the flash it begins 39 more, one of them an erase, since it's tried again.
+        ensures light { Tries 1 self.old.flash self.new.flash result }
+        // With the slots outside a move it gives up only after as many Faults as a record has tries.
+        ensures keeps_trying { (n : ℕ) → n + lead_of F.PAGES F.SECTORS < F.SLOTS → WillTake F.SLOTS self.old n
+            → Tries TRIES self.old.flash self.new.flash result }
+        ensures work { Costs (2 * F.PAGES + 40 + F.SECTORS) 2 self.old.flash self.new.flash }
+        // In pace a write begins at most 37 programs and erases, whatever else it comes to, and two more for each Fault
+        // of the flash. However often that fails, at most one of them is an erase.
         ensures pause { (extra : ℕ)
             → IsRoomy F.PAGES F.SLOTS F.SECTORS (extra + failed_since self.old.flash self.new.flash)
-            → Pauses 37 39 1 self.old.flash self.new.flash
+            → Pauses 37 2 self.old.flash self.new.flash
             (StandsInPace F.PAGES F.SLOTS F.SECTORS F.sector_start extra self.old)
             ((self.new.paced ≡ true) × (self.new.extra ≤ extra + failed_since self.old.flash self.new.flash)) result }
         // While more free slots are known than a move begins at, and the flash doesn't fail, it takes one of them, and
@@ -261,9 +264,10 @@ impl<F: Flash> FlashLog<F> {
             → StandsInPace F.PAGES F.SLOTS F.SECTORS F.sector_start
             (extra + lost_since self.old.flash self.new.flash) self.new }
         ensures light { Tries 1 self.old.flash self.new.flash result }
-        ensures work { Costs (2 * F.PAGES + 7 + 2 * F.SECTORS + 33 * lead_of F.PAGES F.SECTORS) 2 self.old.flash
+        ensures work { Costs (2 * F.PAGES + 7 + 2 * F.SECTORS + 33 * move_steps_of F.PAGES F.SECTORS) 2 self.old.flash
             self.new.flash }
-        ensures erases { self.new.flash.erases ≤ self.old.flash.erases + 2 * F.SECTORS + 1 + lead_of F.PAGES F.SECTORS }
+        ensures erases { self.new.flash.erases ≤ self.old.flash.erases + 2 * F.SECTORS + 1
+            + move_steps_of F.PAGES F.SECTORS }
         // With the slots for a move none is under way: then at most as many erases as both areas and the witness have
         // sectors.
         ensures calm { HasFreeSlots F.SLOTS (lead_of F.PAGES F.SECTORS) self.old.raw

@@ -7,6 +7,7 @@ mod flash_log;
 mod place;
 mod renewal;
 mod steps;
+mod tries;
 mod turns;
 mod writing;
 

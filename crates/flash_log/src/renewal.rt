@@ -5,14 +5,14 @@ ghost use Rattle.flash_device.specs.FlashCalls.{AreFilled, Costs, Lights, SameEl
 ghost use Rattle.flash_device.specs.FlashLogs.{base_in, words_of};
 ghost use Rattle.flash_device.specs.PageTables.{IsPageTable};
 ghost use Rattle.flash_log.specs.Paces.{HasFreeSlots, IsRoomy, KeepsFree, KeepsPace, RenewsOnly, WillKeepPace};
-ghost use Rattle.flash_log.specs.Paces.{KeepsRoom, failed_since, free_slots, lead_of, lost_since};
+ghost use Rattle.flash_log.specs.Paces.{KeepsRoom, failed_since, free_slots, lead_of, lost_since, move_steps_of};
 ghost use Rattle.flash_log.specs.Places.{IsLog};
 ghost use Rattle.flash_area.specs.HeldPages.{HavePages, HoldsPage};
 ghost use Rattle.flash_log.specs.Renewals.{AreClean, HasLastMark, HoldsOnlyPages, IsCleanSlot};
 ghost use Rattle.flash_area.specs.Spares.{spare_in};
 ghost use Rattle.flash_device.specs.declared.flash.TheConstants.{BLANK};
 
-use crate::ahead::{lead, pass_on, take_step};
+use crate::ahead::{lead, move_steps, pass_on, take_step};
 use crate::place::PageMap;
 use crate::steps::{find_pages, make_room};
 use crate::writing::copy_older;
@@ -194,8 +194,8 @@ fn end_move<F: Flash>(flash: &mut F, place: &mut PageMap<F::Table>) -> Result<()
         → WillKeepPace F.PAGES F.SLOTS F.SECTORS F.sector_start (F.state flash.new).words
         (extra + lost_since (F.state flash.old) (F.state flash.new)) place.new }
     ensures light { Tries 1 (F.state flash.old) (F.state flash.new) result }
-    ensures work { Costs (2 + 33 * lead_of F.PAGES F.SECTORS) 2 (F.state flash.old) (F.state flash.new) }
-    ensures erases { (F.state flash.new).erases ≤ (F.state flash.old).erases + lead_of F.PAGES F.SECTORS }
+    ensures work { Costs (2 + 33 * move_steps_of F.PAGES F.SECTORS) 2 (F.state flash.old) (F.state flash.new) }
+    ensures erases { (F.state flash.new).erases ≤ (F.state flash.old).erases + move_steps_of F.PAGES F.SECTORS }
 {
     place.ready = false;
     place.tried = 0;
@@ -204,7 +204,7 @@ fn end_move<F: Flash>(flash: &mut F, place: &mut PageMap<F::Table>) -> Result<()
         return Ok(());
     }
     copy_older(flash, place)?;
-    for _ in 0..lead::<F>() {
+    for _ in 0..move_steps::<F>() {
         take_step(flash, place)?;
     }
     Ok(())
@@ -264,10 +264,10 @@ pub fn renew_pages<F: Flash>(flash: &mut F, place: &mut PageMap<F::Table>) -> Re
         → WillKeepPace F.PAGES F.SLOTS F.SECTORS F.sector_start (F.state flash.new).words
         (extra + lost_since (F.state flash.old) (F.state flash.new)) place.new }
     ensures light { Tries 1 (F.state flash.old) (F.state flash.new) result }
-    ensures work { Costs (2 * F.PAGES + 7 + 2 * F.SECTORS + 33 * lead_of F.PAGES F.SECTORS) 2 (F.state flash.old)
+    ensures work { Costs (2 * F.PAGES + 7 + 2 * F.SECTORS + 33 * move_steps_of F.PAGES F.SECTORS) 2 (F.state flash.old)
         (F.state flash.new) }
     ensures erases { (F.state flash.new).erases
-        ≤ (F.state flash.old).erases + 2 * F.SECTORS + 1 + lead_of F.PAGES F.SECTORS }
+        ≤ (F.state flash.old).erases + 2 * F.SECTORS + 1 + move_steps_of F.PAGES F.SECTORS }
     ensures calm { HasFreeSlots F.SLOTS (lead_of F.PAGES F.SECTORS) (F.state flash.old).words
         → RenewsOnly F.PAGES F.SECTORS (F.state flash.old) (F.state flash.new) }
 {

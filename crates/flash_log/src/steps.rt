@@ -1,32 +1,27 @@
 //! The steps of a read and a write of the log.
-ghost use Rattle.std.specs.Prelude.{◌≡◌, ◌⊎◌, ◌<◌, ◌≤◌, ◌+◌, ◌-◌, ◌*◌, ℕ, true, false, length, slice_index};
+ghost use Rattle.std.specs.Prelude.{◌≡◌, ◌⊎◌, ◌<◌, ◌≤◌, ◌+◌, ◌-◌, ◌*◌, ℕ, true, false, slice_index};
 ghost use Rattle.std.specs.Prelude.{IfOk, OnErr, OnOk};
-ghost use Rattle.nvm_board.specs.History.{written};
 ghost use Rattle.flash_device.specs.FlashCalls.{Costs, Lights, Tries};
-ghost use Rattle.flash_device.specs.FlashLogs.{base_in, find, turn_of, words_of};
+ghost use Rattle.flash_device.specs.FlashLogs.{base_in, turn_of, words_of};
 ghost use Rattle.flash_device.specs.PageTables.{AreFree, IsPageTable};
 ghost use Rattle.flash_log.specs.Paces.{CopiesNoPageAt, HasStepped, HasMoved, HasNoStepDue, IsInPace, IsRoomy};
-ghost use Rattle.flash_log.specs.Paces.{KeepsFree, KeepsPace, MovesFound, MovesWell, Pauses, RegainsSlots, TakesSlot};
-ghost use Rattle.flash_log.specs.Paces.{IsBeforeMove, IsCaughtUp, WillKeepPace, extra_of, extra_slots, free_slots};
+ghost use Rattle.flash_log.specs.Paces.{KeepsFree, KeepsPace, MovesFound, MovesWell, Pauses};
+ghost use Rattle.flash_log.specs.Paces.{IsBeforeMove, IsCaughtUp, WillKeepPace, extra_of, free_slots};
 ghost use Rattle.flash_log.specs.Paces.{KeepsRoom, StandsSo, failed_since, is_fresh, lead_of, lost_since};
 ghost use Rattle.flash_log.specs.Places.{FindsFree, IsLog, IsPlaceOf, log_value};
-ghost use Rattle.flash_log.specs.SlotsInTurn.{FindsNext, IsNextSlot, TakesInTurn, WillTake};
+ghost use Rattle.flash_log.specs.SlotsInTurn.{FindsNext, IsNextSlot, WillTake};
 ghost use Rattle.flash_area.specs.HeldPages.{HavePages};
 ghost use Rattle.flash_area.specs.Spares.{IsSpare, KeepsSectors, KeepsSteps, copies_most};
 ghost use Rattle.flash_log.specs.Renewals.{HasLastMark};
-ghost use Rattle.flash_log.specs.declared.steps.TheConstants.{TRIES};
 ghost use Rattle.flash_device.specs.declared.layout.TheConstants.{STEP_PAGES};
 
 use crate::ahead::{lead, take_step};
 use crate::place::PageMap;
 use crate::turns::{find_turn, move_to_a, move_to_b, pass_witness};
-use crate::writing::{copy_older, write_run};
-use flash_area::{Progress, find_progress, home, older_page, read_page_word, scan};
+use crate::writing::copy_older;
+use flash_area::{Progress, find_progress, home, read_page_word, scan};
 use flash_device::{Flash, copy_steps};
 use nvm_board::DeviceErr;
-
-/// The number of times that a write is tried, until a Fault of the flash is returned.
-pub const TRIES: u8 = 8;
 
 /// Passes over the slots that were tried.
 fn later<F: Flash>(next: u16, tried: u16) -> u16
@@ -103,6 +98,8 @@ pub fn find_pages<F: Flash>(flash: &mut F, place: &mut PageMap<F::Table>) -> Res
         → IsNextSlot F.SLOTS (F.state flash.old).words place.old.tried n → place.new.next ≡ n) }
     ensures looks { is_fresh place.old ≡ true → (is_fresh place.new ≡ true)
         ⊎ FindsFree F.SLOTS (F.state flash.old).words (free_slots F.SLOTS place.new) }
+    ensures begun { OnOk result (place.old.ready ≡ false → 0 < place.new.copied + place.new.behind
+        → F.SLOTS ≤ place.new.next + lead_of F.PAGES F.SECTORS) }
     ensures paced { (extra : ℕ) → place.old.ready ≡ false → lead_of F.PAGES F.SECTORS < free_slots F.SLOTS place.new
         → KeepsPace F.PAGES F.SLOTS F.SECTORS extra place.new }
     ensures in_pace { OnOk result ((extra : ℕ) → extra ≤ extra_of F.PAGES F.SLOTS F.SECTORS
@@ -228,7 +225,7 @@ pub fn make_room<F: Flash>(flash: &mut F, place: &mut PageMap<F::Table>) -> Resu
 }
 
 /// Makes ready for a write: finds the pages, copies an older one again, takes a step of the move, and makes room.
-fn prepare<F: Flash>(flash: &mut F, place: &mut PageMap<F::Table>) -> Result<(), DeviceErr>
+pub fn prepare<F: Flash>(flash: &mut F, place: &mut PageMap<F::Table>) -> Result<(), DeviceErr>
     requires lit { (F.state flash.old).dark ≡ false }
     requires log { IsLog F.Table.entries F.PAGES F.SLOTS F.SECTORS F.sector_start (F.state flash.old).words place.old }
     ensures words { words_of F.PAGES F.SLOTS (F.state flash.new).words
@@ -241,7 +238,7 @@ fn prepare<F: Flash>(flash: &mut F, place: &mut PageMap<F::Table>) -> Result<(),
     ensures work { Costs (2 * F.PAGES + 38 + F.SECTORS) 2 (F.state flash.old) (F.state flash.new) }
     ensures pause { (extra : ℕ)
         → IsRoomy F.PAGES F.SLOTS F.SECTORS (extra + failed_since (F.state flash.old) (F.state flash.new))
-        → Pauses 35 2 0 (F.state flash.old) (F.state flash.new)
+        → Pauses 35 2 (F.state flash.old) (F.state flash.new)
         (WillKeepPace F.PAGES F.SLOTS F.SECTORS F.sector_start (F.state flash.old).words extra place.old)
         (HasStepped F.PAGES F.SLOTS F.SECTORS (extra + failed_since (F.state flash.old) (F.state flash.new)) place.new)
         result }
@@ -308,160 +305,4 @@ pub fn read_at<F: Flash>(
     find_pages(flash, place)?;
     let word = read_page_word(flash, home(place.turn), &place.table, at / 16, at % 16)?;
     Ok(word)
-}
-
-/// Writes a run of a page, or fails once. At every exit all words of the run are old, or all are new.
-fn write_once<F: Flash>(
-    flash: &mut F,
-    place: &mut PageMap<F::Table>,
-    page: u16,
-    first: u8,
-    words: &[u32],
-) -> Result<(), DeviceErr>
-    requires lit { (F.state flash.old).dark ≡ false }
-    requires log { IsLog F.Table.entries F.PAGES F.SLOTS F.SECTORS F.sector_start (F.state flash.old).words place.old }
-    requires page { page < F.PAGES }
-    requires run { first + length words.now ≤ 16 }
-    ensures whole { (words_of F.PAGES F.SLOTS (F.state flash.new).words
-        ≡ words_of F.PAGES F.SLOTS (F.state flash.old).words)
-        ⊎ (words_of F.PAGES F.SLOTS (F.state flash.new).words
-        ≡ written (words_of F.PAGES F.SLOTS (F.state flash.old).words) (16 * page + first) words.now) }
-    ensures done { OnOk result (words_of F.PAGES F.SLOTS (F.state flash.new).words
-        ≡ written (words_of F.PAGES F.SLOTS (F.state flash.old).words) (16 * page + first) words.now) }
-    ensures log { IsLog F.Table.entries F.PAGES F.SLOTS F.SECTORS F.sector_start (F.state flash.new).words place.new }
-    ensures light { Tries 1 (F.state flash.old) (F.state flash.new) result }
-    ensures work { Costs (2 * F.PAGES + 40 + F.SECTORS) 2 (F.state flash.old) (F.state flash.new) }
-    ensures pause { (extra : ℕ)
-        → IsRoomy F.PAGES F.SLOTS F.SECTORS (extra + failed_since (F.state flash.old) (F.state flash.new))
-        → Pauses 37 2 0 (F.state flash.old) (F.state flash.new)
-        (WillKeepPace F.PAGES F.SLOTS F.SECTORS F.sector_start (F.state flash.old).words extra place.old)
-        (KeepsPace F.PAGES F.SLOTS F.SECTORS (extra + failed_since (F.state flash.old) (F.state flash.new)) place.new)
-        result }
-    ensures calm { lead_of F.PAGES F.SECTORS < free_slots F.SLOTS place.old
-        → (F.state flash.new).faults ≡ (F.state flash.old).faults
-        → TakesSlot (F.state flash.old) (F.state flash.new) (place.old.copied ≡ 0) (free_slots F.SLOTS place.old)
-        (free_slots F.SLOTS place.new) result }
-    ensures slots { (n : ℕ) → n + lead_of F.PAGES F.SECTORS < F.SLOTS
-        → WillTake F.SLOTS (log_value F.PAGES F.SLOTS F.SECTORS (F.state flash.old) place.old) n
-        → TakesInTurn F.SLOTS n 1 (log_value F.PAGES F.SLOTS F.SECTORS (F.state flash.old) place.old)
-        (log_value F.PAGES F.SLOTS F.SECTORS (F.state flash.new) place.new) }
-    ensures once { (n : ℕ) → n + lead_of F.PAGES F.SECTORS < F.SLOTS
-        → WillTake F.SLOTS (log_value F.PAGES F.SLOTS F.SECTORS (F.state flash.old) place.old) n
-        → (F.state flash.new).faults ≤ (F.state flash.old).faults + 1 }
-    ensures last { OnOk result (find (F.state flash.new).words
-        (base_in F.SLOTS (turn_of F.SLOTS (F.state flash.new).words)) F.SLOTS page
-        ≡ F.SLOTS - free_slots F.SLOTS place.new) }
-    ensures regains { OnOk result ((extra : ℕ) → IsRoomy F.PAGES F.SLOTS F.SECTORS extra
-        → (F.state flash.new).faults ≡ (F.state flash.old).faults
-        → KeepsPace F.PAGES F.SLOTS F.SECTORS extra place.old
-        → RegainsSlots F.PAGES F.SLOTS extra (free_slots F.SLOTS place.old) (free_slots F.SLOTS place.new)
-        (extra_slots place.new)) }
-    ensures regains_found { OnOk result ((extra : ℕ) → IsRoomy F.PAGES F.SLOTS F.SECTORS extra
-        → (F.state flash.new).faults ≡ (F.state flash.old).faults
-        → WillKeepPace F.PAGES F.SLOTS F.SECTORS F.sector_start (F.state flash.old).words extra place.old
-        → (n : ℕ) → FindsFree F.SLOTS (F.state flash.old).words n
-        → RegainsSlots F.PAGES F.SLOTS extra n (free_slots F.SLOTS place.new) (extra_slots place.new)) }
-    ensures lost { (extra : ℕ) → IsRoomy F.PAGES F.SLOTS F.SECTORS extra
-        → (F.state flash.new).faults ≡ (F.state flash.old).faults
-        → WillKeepPace F.PAGES F.SLOTS F.SECTORS F.sector_start (F.state flash.old).words extra place.old
-        → CopiesNoPageAt F.PAGES F.SLOTS F.SECTORS (F.state flash.old) place.old (F.state flash.new)
-        → IsInPace F.PAGES F.SLOTS F.SECTORS F.sector_start (F.state flash.new).words extra }
-    ensures stands { (extra : ℕ)
-        → IsRoomy F.PAGES F.SLOTS F.SECTORS (extra + failed_since (F.state flash.old) (F.state flash.new))
-        → WillKeepPace F.PAGES F.SLOTS F.SECTORS F.sector_start (F.state flash.old).words extra place.old
-        → WillKeepPace F.PAGES F.SLOTS F.SECTORS F.sector_start (F.state flash.new).words
-        (extra + lost_since (F.state flash.old) (F.state flash.new)) place.new }
-{
-    prepare(flash, place)?;
-    place.ready = false;
-    place.tried = place.next + 1;
-    write_run(
-        flash,
-        home(place.turn),
-        &mut place.table,
-        place.next,
-        page,
-        first,
-        words,
-    )?;
-    place.next += 1;
-    place.older = older_page(page, place.copied);
-    place.ready = true;
-    Ok(())
-}
-
-/// Writes a run of a page. At every exit all words of the run are old, or all are new. A Fault of
-/// the flash is returned only if as many tries failed, each in a slot that the others didn't use.
-pub fn write_at<F: Flash>(
-    flash: &mut F,
-    place: &mut PageMap<F::Table>,
-    page: u16,
-    first: u8,
-    words: &[u32],
-) -> Result<(), DeviceErr>
-    requires lit { (F.state flash.old).dark ≡ false }
-    requires log { IsLog F.Table.entries F.PAGES F.SLOTS F.SECTORS F.sector_start (F.state flash.old).words place.old }
-    requires page { page < F.PAGES }
-    requires run { first + length words.now ≤ 16 }
-    ensures whole { (words_of F.PAGES F.SLOTS (F.state flash.new).words
-        ≡ words_of F.PAGES F.SLOTS (F.state flash.old).words)
-        ⊎ (words_of F.PAGES F.SLOTS (F.state flash.new).words
-        ≡ written (words_of F.PAGES F.SLOTS (F.state flash.old).words) (16 * page + first) words.now) }
-    ensures done { OnOk result (words_of F.PAGES F.SLOTS (F.state flash.new).words
-        ≡ written (words_of F.PAGES F.SLOTS (F.state flash.old).words) (16 * page + first) words.now) }
-    ensures log { IsLog F.Table.entries F.PAGES F.SLOTS F.SECTORS F.sector_start (F.state flash.new).words place.new }
-    ensures light { Tries TRIES (F.state flash.old) (F.state flash.new) result }
-    ensures work { Costs (2 * F.PAGES + 40 + F.SECTORS) (2 * F.PAGES + 42 + F.SECTORS) (F.state flash.old)
-        (F.state flash.new) }
-    ensures pause { (extra : ℕ)
-        → IsRoomy F.PAGES F.SLOTS F.SECTORS (extra + failed_since (F.state flash.old) (F.state flash.new))
-        → Pauses 37 39 1 (F.state flash.old) (F.state flash.new)
-        (WillKeepPace F.PAGES F.SLOTS F.SECTORS F.sector_start (F.state flash.old).words extra place.old)
-        (KeepsPace F.PAGES F.SLOTS F.SECTORS (extra + failed_since (F.state flash.old) (F.state flash.new)) place.new)
-        result }
-    ensures calm { lead_of F.PAGES F.SECTORS < free_slots F.SLOTS place.old
-        → (F.state flash.new).faults ≡ (F.state flash.old).faults
-        → TakesSlot (F.state flash.old) (F.state flash.new) (place.old.copied ≡ 0) (free_slots F.SLOTS place.old)
-        (free_slots F.SLOTS place.new) result }
-    ensures slots { (n : ℕ)
-        → n + lead_of F.PAGES F.SECTORS + ((F.state flash.new).faults - (F.state flash.old).faults) < F.SLOTS
-        → WillTake F.SLOTS (log_value F.PAGES F.SLOTS F.SECTORS (F.state flash.old) place.old) n
-        → TakesInTurn F.SLOTS n (1 + ((F.state flash.new).faults - (F.state flash.old).faults))
-        (log_value F.PAGES F.SLOTS F.SECTORS (F.state flash.old) place.old)
-        (log_value F.PAGES F.SLOTS F.SECTORS (F.state flash.new) place.new) }
-    ensures tries { (n : ℕ) → n + lead_of F.PAGES F.SECTORS + TRIES ≤ F.SLOTS
-        → WillTake F.SLOTS (log_value F.PAGES F.SLOTS F.SECTORS (F.state flash.old) place.old) n
-        → (F.state flash.new).faults ≤ (F.state flash.old).faults + TRIES }
-    ensures last { OnOk result (find (F.state flash.new).words
-        (base_in F.SLOTS (turn_of F.SLOTS (F.state flash.new).words)) F.SLOTS page
-        ≡ F.SLOTS - free_slots F.SLOTS place.new) }
-    ensures regains { OnOk result ((extra : ℕ) → IsRoomy F.PAGES F.SLOTS F.SECTORS extra
-        → (F.state flash.new).faults ≡ (F.state flash.old).faults
-        → KeepsPace F.PAGES F.SLOTS F.SECTORS extra place.old
-        → RegainsSlots F.PAGES F.SLOTS extra (free_slots F.SLOTS place.old) (free_slots F.SLOTS place.new)
-        (extra_slots place.new)) }
-    ensures regains_found { OnOk result ((extra : ℕ) → IsRoomy F.PAGES F.SLOTS F.SECTORS extra
-        → (F.state flash.new).faults ≡ (F.state flash.old).faults
-        → WillKeepPace F.PAGES F.SLOTS F.SECTORS F.sector_start (F.state flash.old).words extra place.old
-        → (n : ℕ) → FindsFree F.SLOTS (F.state flash.old).words n
-        → RegainsSlots F.PAGES F.SLOTS extra n (free_slots F.SLOTS place.new) (extra_slots place.new)) }
-    ensures lost { (extra : ℕ) → IsRoomy F.PAGES F.SLOTS F.SECTORS extra
-        → (F.state flash.new).faults ≡ (F.state flash.old).faults
-        → WillKeepPace F.PAGES F.SLOTS F.SECTORS F.sector_start (F.state flash.old).words extra place.old
-        → CopiesNoPageAt F.PAGES F.SLOTS F.SECTORS (F.state flash.old) place.old (F.state flash.new)
-        → IsInPace F.PAGES F.SLOTS F.SECTORS F.sector_start (F.state flash.new).words extra }
-    ensures stands { (extra : ℕ)
-        → IsRoomy F.PAGES F.SLOTS F.SECTORS (extra + failed_since (F.state flash.old) (F.state flash.new))
-        → WillKeepPace F.PAGES F.SLOTS F.SECTORS F.sector_start (F.state flash.old).words extra place.old
-        → WillKeepPace F.PAGES F.SLOTS F.SECTORS F.sector_start (F.state flash.new).words
-        (extra + lost_since (F.state flash.old) (F.state flash.new)) place.new }
-{
-    for _ in 1..TRIES {
-        match write_once(flash, place, page, first, words) {
-            Ok(()) => return Ok(()),
-            Err(DeviceErr::PowerLost) => return Err(DeviceErr::PowerLost),
-            Err(DeviceErr::Fault) => {}
-        }
-    }
-    write_once(flash, place, page, first, words)
 }

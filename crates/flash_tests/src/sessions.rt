@@ -14,7 +14,7 @@ use std::test::Fail;
 const MOST: u64 = 37;
 
 /// The most that it takes for each fault.
-const RETRY: u64 = 39;
+const RETRY: u64 = 2;
 
 /// The least of a write that copies 16 pages: for each a record and its mark.
 const COPIES: u64 = 32;
@@ -158,7 +158,7 @@ fn no_power_loss_makes_a_write_long(rt: HostRuntime) -> Result<(), Fail> {
     let mut losses = 0u32;
     for k in 0..8192u32 {
         let page = k.wrapping_mul(389) & 0x03FF;
-        // (a move takes 67 writes, and the flash has the slots for 7 power losses in it)
+        // (a move takes 67 writes, and the flash has the slots for 6 power losses in it)
         if k % 16 == 0 {
             let (cut, is_lost) = cut_session(flash, page as u16, k, 1 + k / 16 % 36)?;
             flash = cut;

@@ -10,7 +10,8 @@ from ..unproving.kit import Failed
 
 # docs/FLASH.md: a move copies 16 pages at a time
 LEAST_PAGES, MOST_PAGES, STEP_PAGES = 1024, 4096, 16
-# docs/FLASH.md, "Small sectors": the slots at which a move begins, beside one for each sector
+# docs/FLASH.md: the slots at which a move begins, beside one for each sector, and for each step that copies if sectors
+# aren't small
 LEAD_SLOTS = 9
 # docs/FLASH.md: an area takes each page once, with slots to pass over, and a slot has a number of 16 bits
 SPARE_SLOTS = 256
@@ -102,7 +103,7 @@ def why_too_many(sectors: int) -> str | None:
 def least_in_pace(pages: int, slots: int, sectors: Callable[[int], int]) -> int:
     """The least number of slots, these or more, with which a move keeps each write short (docs/FLASH.md, "The pause").
     An area of so many slots has so many sectors."""
-    while (least := sectors(slots) + pages + pages // 8 + 1) > slots:
+    while (least := sectors(slots) + pages + pages // 8 + LEAD_SLOTS) > slots:
         slots = least
     return slots
 

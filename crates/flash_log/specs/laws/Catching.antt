@@ -15,7 +15,7 @@ use Rattle.flash_area.specs.PageCopies.{KeepsOthers}
 use Rattle.flash_area.specs.Spares.{HasCopies, IsSpare, spare_in}
 use Rattle.flash_area.specs.laws.Copying.{SameArea, area_free}
 use Rattle.flash_area.specs.laws.Words.{index-page, written_other}
-use Rattle.flash_log.specs.Paces.{HasStepped, IsInPaceFrom, KeepsPace}
+use Rattle.flash_log.specs.Paces.{HasStepped, IsInPaceFrom, KeepsPace, OwnsOlder}
 use Rattle.flash_log.specs.Places.{IsLog, IsPlaceOf}
 use Rattle.flash_log.specs.Rings.{IsRing, SameMarks}
 use Rattle.flash_log.specs.laws.Losing.{in_pace_from, put_in_pace}
@@ -115,17 +115,16 @@ module _ {T : Type 0} (entries : T → List ℕ) (pages slots sectors : ℕ) (st
 module _ {T : Type 0} (entries : T → List ℕ) (pages slots sectors : ℕ) (start : ℕ → ℕ)
     (rise : (s : ℕ) → start s ≤ start (s + 1)) (first_sector : start 0 ≡ 0) (second : start sectors ≡ area_size slots)
     (third : start (2 * sectors) ≡ witness_start slots) (some : 0 < sectors) (m after : List ℕ) (p : PageMap T)
-    (at : IsPlaceOf entries pages slots sectors start m p) (none : p.older ≡ 0)
+    (at : IsPlaceOf entries pages slots sectors start m p)
     (elsewhere : SameElsewhere m (base_in slots p.turn) (20 * slots) after)
     (held : (q : ℕ) → find after (base_in slots p.turn) slots q ≡ 0 → find m (base_in slots p.turn) slots q ≡ 0) where
   -- a write of the area in use leaves the other area
-  same_spare : IsSpare pages slots sectors start after (words_of pages slots m) p.turn p.erased p.copied p.behind 0
+  same_spare : IsSpare pages slots sectors start after (words_of pages slots m) p.turn p.erased p.copied p.behind
+      p.older
   same_spare = spare_same pages slots sectors start rise first_sector second third some m after (words_of pages slots m)
-      p.turn p.erased p.copied p.behind 0 (home_leaves slots m after p.turn elsewhere) held
-      (subst (λ (o : ℕ). IsSpare pages slots sectors start m (words_of pages slots m) p.turn p.erased p.copied p.behind
-      o) none at.spare)
+      p.turn p.erased p.copied p.behind p.older (home_leaves slots m after p.turn elsewhere) held at.spare
 
-  module _ (page first : ℕ) (run : List ℕ) (fits : first + length run ≤ 16) where
+  module _ (page first : ℕ) (run : List ℕ) (fits : first + length run ≤ 16) (own : OwnsOlder page p) where
     -- once it is done, the copy of its page is older, if it has one
     pub run_spare : (o : ℕ) → (page < STEP_PAGES * p.copied → o ≡ page + 1) → (STEP_PAGES * p.copied ≤ page → o ≡ 0)
         → words_of pages slots after ≡ written (words_of pages slots m) (16 * page + first) run
@@ -135,7 +134,8 @@ module _ {T : Type 0} (entries : T → List ℕ) (pages slots sectors : ℕ) (st
         subst (λ (l : List ℕ). IsSpare pages slots sectors start after l p.turn p.erased p.copied p.behind o) (sym done)
         (spare_written pages slots sectors start after old (written old
         (16 * page + first) run) p.turn p.erased p.copied
-        p.behind page o same_spare (λ q k other few. written_other old run page first q k other few fits) copied left)
+        p.behind page p.older o own same_spare (λ q k other few. written_other old run page first q k other few fits)
+        copied left)
 
     -- so the flash stays in pace, whether it is done or torn
     pub run_in_pace : (extra tried : ℕ) → tried ≤ p.next + 1 → HasStepped pages slots sectors extra p
@@ -146,8 +146,8 @@ module _ {T : Type 0} (entries : T → List ℕ) (pages slots sectors : ℕ) (st
         → IsInPaceFrom pages slots sectors start after extra tried
     run_in_pace extra tried passed stepped marks free = ⊎_elim
         (λ (same : words_of pages slots after ≡ words_of pages slots m).
-        put 0 (subst (λ (l : List ℕ). IsSpare pages slots sectors start after l p.turn p.erased p.copied p.behind 0)
-        (sym same) same_spare))
+        put p.older (subst (λ (l : List ℕ). IsSpare pages slots sectors start after l p.turn p.erased p.copied p.behind
+        p.older) (sym same) same_spare))
         (λ (done : words_of pages slots after ≡ written (words_of pages slots m) (16 * page + first) run). ⊎_elim
         (λ (lt : page < STEP_PAGES * p.copied).
         put (page + 1) (run_spare (page + 1) (λ is. refl) (λ ge. absurd (omega (arith, lt, ge))) done))

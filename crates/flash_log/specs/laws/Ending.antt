@@ -6,7 +6,8 @@ use Rattle.flash_log.specs.declared.place.PageMap.{PageMap}
 use Rattle.nvm_board.specs.declared.board.TheConstants.{LEAST_PAGES}
 use Rattle.flash_device.specs.FlashBlocks.{area_size, steps_of, witness_start}
 use Rattle.flash_log.specs.Paces.{HasStepped, IsCaughtUp, IsInPaceFrom, KeepsPace, StandsSo, WillKeepPace}
-use Rattle.flash_log.specs.Paces.{EndsStep, HasFreeSlots, LogState, StandsInPace, free_slots, lead_of, steps_left}
+use Rattle.flash_log.specs.Paces.{EndsStep, HasFreeSlots, LogState, StandsInPace, free_slots, lead_of}
+use Rattle.flash_log.specs.Paces.{move_steps_of, steps_left}
 use Rattle.flash_log.specs.Places.{FindsFree, IsLog}
 use Rattle.flash_log.specs.laws.Losing.{free_in_pace}
 use Rattle.flash_log.specs.laws.Pacing.{caught_more, free_of, from_more, paced_more, place_in_pace, stepped_paced}
@@ -14,7 +15,7 @@ use Rattle.flash_log.specs.laws.Pacing.{caught_more, free_of, from_more, paced_m
 -- So many steps are taken: as many fewer are left, or the pages have moved.
 pub record HasTaken {T : Type 0} (pages slots sectors extra taken : ℕ) (p : PageMap T) : Type 0 where
   pub caught : IsCaughtUp pages slots sectors extra p
-  pub fewer : (steps_left pages sectors p + taken ≤ lead_of pages sectors)
+  pub fewer : (steps_left pages sectors p + taken ≤ move_steps_of pages sectors)
       ⊎ (p.next + lead_of pages sectors < slots)
 
 -- a log may give more slots up
@@ -49,7 +50,7 @@ module _ {T : Type 0} (pages slots sectors : ℕ) where
         inr (subst (λ (r : PageMap T). r.next + lead_of pages sectors < slots) (sym (idle far)) far))
         (λ (due : slots ≤ p.next + lead_of pages sectors). ⊎_elim
         (λ (one : (steps_left pages sectors q + 1 ≡ steps_left pages sectors p) × (q.next ≡ p.next)). ⊎_elim
-        (λ (few : steps_left pages sectors p + taken ≤ lead_of pages sectors).
+        (λ (few : steps_left pages sectors p + taken ≤ move_steps_of pages sectors).
         let less = one.0 in inl (omega (arith, less, few)))
         (λ (far : p.next + lead_of pages sectors < slots). absurd (omega (arith, far, due)))
         was.fewer)
@@ -60,9 +61,9 @@ module _ {T : Type 0} (pages slots sectors : ℕ) where
 
   -- behind as many steps as a move has at most, the pages have moved
   pub all_taken : (extra : ℕ) (p : PageMap T) → p.copied < steps_of pages
-      → HasTaken pages slots sectors extra (lead_of pages sectors) p → p.next + lead_of pages sectors < slots
+      → HasTaken pages slots sectors extra (move_steps_of pages sectors) p → p.next + lead_of pages sectors < slots
   all_taken extra p more taken = ⊎_elim
-      (λ (few : steps_left pages sectors p + lead_of pages sectors ≤ lead_of pages sectors).
+      (λ (few : steps_left pages sectors p + move_steps_of pages sectors ≤ move_steps_of pages sectors).
       absurd (omega (arith, few, more)))
       (λ (far : p.next + lead_of pages sectors < slots). far)
       taken.fewer

@@ -1,10 +1,9 @@
 -- What a call of the flash does to power, as the board tells it.
-use Rattle.std.specs.Prelude.{◌≡◌, ◌<◌, ◌≤◌, ◌+◌, ◌-◌, ◌*◌, ◌/◌, ◌%◌, ◌^◌, ℕ, zero, suc, false, List, length}
+use Rattle.std.specs.Prelude.{◌≡◌, ◌<◌, ◌≤◌, ◌+◌, ◌*◌, ◌/◌, ◌%◌, ◌^◌, ℕ, zero, suc, false, List, length}
 use Rattle.std.specs.Prelude.{Result, Ok, Err}
 use Rattle.nvm_board.specs.declared.board.DeviceErr.{DeviceErr}
 use Rattle.nvm_board.specs.declared.board.DeviceErr.TheVariants.{PowerLost, Fault}
-use Rattle.std.proofs.Common.{refl, sym, ◌∙◌, ap, arith, subst}
-use Rattle.std.proofs.Math.Nat.{add-mul, mul-add, mul-le-mul_left}
+use Rattle.std.proofs.Common.{refl, sym, ◌∙◌, arith, subst}
 use Rattle.std.proofs.lemmas.List.Elements.{All-get_or, All-from_get_or}
 use Rattle.nvm_board.specs.Facts.{AreWords}
 use Rattle.flash_device.specs.FlashBlocks.{area_size, flash_size}
@@ -62,27 +61,3 @@ pub lights_once : {T : Type 0} (old new : FlashState) (r : Result T DeviceErr) �
 lights_once old new (Ok x) lights = let same = (lights.ok refl).faults in omega (arith, same)
 lights_once old new (Err PowerLost) lights = let same = (lights.lost refl).faults in omega (arith, same)
 lights_once old new (Err Fault) lights = let more = (lights.fault refl).faults in omega (arith, more)
-
--- What one try more costs, by the faults: n for each fault of those before it, c for this one, and 2 for each of its
--- own faults.
-module _ (n c : ℕ) (each : n ≡ c + 2) (first before faults start begun after : ℕ)
-    (was : begun + n * first ≤ start + n * before) (more : before ≤ faults)
-    (step : after + 2 * before ≤ begun + c + 2 * faults) where
-  parted : n * faults ≡ n * before + (c * (faults - before) + 2 * (faults - before))
-  parted =
-      let d = faults - before in
-      let there : faults ≡ before + d = omega (arith, more) in
-      ap (λ (k : ℕ). n * k) there ∙ mul-add n before d
-      ∙ ap (λ (k : ℕ). n * before + k) (ap (λ (k : ℕ). k * d) each ∙ add-mul c 2 d)
-
-  -- it failed
-  pub failed_costs : before + 1 ≤ faults → after + n * first ≤ start + n * faults
-  failed_costs rise =
-      let one : 1 ≤ faults - before = omega (arith, rise) in
-      let least : c * 1 ≤ c * (faults - before) = mul-le-mul_left c one in
-      let same : c * 1 ≡ c = omega arith in
-      let parts = parted in omega (arith, was, step, parts, least, same, more)
-
-  -- it was the last
-  pub last_costs : after + n * first ≤ start + c + n * faults
-  last_costs = let parts = parted in omega (arith, was, step, parts, more)

@@ -14,7 +14,7 @@ use Rattle.flash_device.specs.PageTables.{AreFree}
 use Rattle.flash_log.specs.Paces.{HasNoStepDue, HasStepped, HasMoved, IsBrief, IsCaughtUp, IsInPace, IsInPaceFrom}
 use Rattle.flash_log.specs.Paces.{IsRoomy, KeepsPace, MovesFound, MovesWell, Pauses, StandsSo, TakesSlot, WillKeepPace}
 use Rattle.flash_log.specs.Paces.{extra_of, extra_slots, failed_since, free_slots, is_fresh, is_paced, lead_of}
-use Rattle.flash_log.specs.Paces.{lost_since, steps_left}
+use Rattle.flash_log.specs.Paces.{lost_since, move_steps_of, steps_left}
 use Rattle.flash_log.specs.Places.{IsLog, IsPlaceOf, state_of}
 use Rattle.flash_area.specs.Spares.{IsSpare, KeepsSteps, StepsFit, copies_most}
 
@@ -31,9 +31,9 @@ failed_not_ok (Ok x) failed ok = absurd (true≢false (sym failed))
 failed_not_ok (Err e) failed ok = absurd (true≢false (sym ok))
 
 -- what a short call and others without an erase come to
-pub short_then : (most n more : ℕ) (old mid new : FlashState) → most + n ≤ more → IsBrief most 2 0 old mid
+pub short_then : (most n more : ℕ) (old mid new : FlashState) → most + n ≤ more → IsBrief most 2 old mid
     → new.operations ≤ mid.operations + n → mid.faults ≤ new.faults → new.erases ≡ mid.erases
-    → IsBrief more 2 0 old new
+    → IsBrief more 2 old new
 short_then most n more old mid new fits short operations faults erases =
     let a = short.work.operations in let b = short.erases in record {
       work = record { operations = omega (arith, a, operations, faults, fits) };
@@ -41,9 +41,9 @@ short_then most n more old mid new fits short operations faults erases =
     }
 
 -- the same of what a log's value shows
-brief_view : (pages slots most more again : ℕ) (old new : FlashState) → IsBrief most more again old new
-    → IsBrief most more again (state_of pages slots old) (state_of pages slots new)
-brief_view pages slots most more again old new short = record {
+brief_view : (pages slots most more : ℕ) (old new : FlashState) → IsBrief most more old new
+    → IsBrief most more (state_of pages slots old) (state_of pages slots new)
+brief_view pages slots most more old new short = record {
   work = record { operations = short.work.operations };
   erases = short.erases;
 }
@@ -62,21 +62,13 @@ copied_room steps slots sectors w erased copied next more room = omega (arith, m
 
 module _ {T : Type 0} (pages slots sectors : ℕ) where
   -- a move has no more steps than its lead
-  pub steps_most : (p : PageMap T) → steps_left pages sectors p ≤ lead_of pages sectors
+  pub steps_most : (p : PageMap T) → steps_left pages sectors p ≤ move_steps_of pages sectors
   steps_most p = by_test (nat_eq p.turn 1)
     where
       by_test : (b : Bool) → (if b then 1 else 0) + (sectors - p.erased) + (steps_of pages - p.copied)
-          ≤ lead_of pages sectors
+          ≤ move_steps_of pages sectors
       by_test true = omega arith
       by_test false = omega arith
-
-  -- what holds of a write without a fault, if it holds since the last try
-  pub holds_since : (old mid new : FlashState) (p q : PageMap T) (holds : PageMap T → Type 0) → old.faults ≤ mid.faults
-      → mid.faults ≤ new.faults → (mid.faults ≡ old.faults → (q ≡ p) × (mid ≡ old))
-      → (new.faults ≡ mid.faults → holds q) → new.faults ≡ old.faults → holds p
-  holds_since old mid new p q holds less more first h same =
-      let none : mid.faults ≡ old.faults = omega (arith, less, more, same) in
-      subst holds (first none).0 (h (same ∙ sym none))
 
   -- no step is due, and there is room: what was copied again is all that a write's making ready did
   pub none_due : (old found new : FlashState) (p q t : PageMap T) → q.next ≡ p.next → Costs 2 2 old found
@@ -90,15 +82,6 @@ module _ {T : Type 0} (pages slots sectors : ℕ) where
         erases = erases;
         next = next;
       }))
-
-  -- the same of what holds by the flash too
-  pub holds_still : (old mid new : FlashState) (p q : PageMap T) (holds : FlashState → PageMap T → Type 0)
-      → old.faults ≤ mid.faults → mid.faults ≤ new.faults → (mid.faults ≡ old.faults → (q ≡ p) × (mid ≡ old))
-      → (new.faults ≡ mid.faults → holds mid q) → new.faults ≡ old.faults → holds old p
-  holds_still old mid new p q holds less more first h same =
-      let none : mid.faults ≡ old.faults = omega (arith, less, more, same) in
-      let is = first none in
-      subst (λ (s : FlashState). holds s p) is.1 (subst (holds mid) is.0 (h (same ∙ sym none)))
 
   -- the log has yet to look
   pub fresh_is : (p : PageMap T) → is_fresh p ≡ true → (p.ready ≡ false) × (p.tried ≡ 0)
@@ -134,23 +117,9 @@ module _ {T : Type 0} (pages slots sectors : ℕ) where
       omega (arith, same))
       (cases_eq (free_slots slots p) 0)
 
-  -- tries that failed before a write count only where the flash failed
-  pub takes_since : {R : Type 0} (old mid new : FlashState) (p q : PageMap T) (after : ℕ) (r : Result R DeviceErr)
-      → old.faults ≤ mid.faults → mid.faults ≤ new.faults → (mid.faults ≡ old.faults → (q ≡ p) × (mid ≡ old))
-      → (lead_of pages sectors < free_slots slots q → new.faults ≡ mid.faults
-      → TakesSlot mid new (q.copied ≡ 0) (free_slots slots q) after r)
-      → lead_of pages sectors < free_slots slots p → new.faults ≡ old.faults
-      → TakesSlot old new (p.copied ≡ 0) (free_slots slots p) after r
-  takes_since old mid new p q after r less more first h far same =
-      let none : mid.faults ≡ old.faults = omega (arith, less, more, same) in
-      let is = first none in
-      subst (λ (s : FlashState). TakesSlot s new (p.copied ≡ 0) (free_slots slots p) after r) is.1
-      (subst (λ (z : PageMap T). TakesSlot mid new (z.copied ≡ 0) (free_slots slots z) after r) is.0
-      (h (subst (λ (z : PageMap T). lead_of pages sectors < free_slots slots z) (sym is.0) far) (same ∙ sym none)))
-
 -- what making ready comes to before room is made
 pub ready_brief : (first found stepped : FlashState) → Costs 2 2 first found → found.erases ≡ first.erases
-    → Costs 33 2 found stepped → stepped.erases ≤ found.erases + 1 → IsBrief 35 2 0 first stepped
+    → Costs 33 2 found stepped → stepped.erases ≤ found.erases + 1 → IsBrief 35 2 first stepped
 ready_brief first found stepped found_work found_erases step_work step_erases =
     let early = found_work.operations in
     let work = step_work.operations in record {
@@ -397,6 +366,19 @@ module _ {T : Type 0} (pages slots sectors extra : ℕ) where
         passed = passed;
       }
 
+  -- with the slots of a whole move, it may begin anew
+  pub anew_paced : (p : PageMap T) → p.next + move_steps_of pages sectors < slots
+      → KeepsPace pages slots sectors extra p
+      → KeepsPace pages slots sectors extra (record p { erased = 0; copied = 0; behind = 0; older = 0 })
+  anew_paced p far h =
+      let most = steps_most pages slots sectors (record p { erased = 0; copied = 0; behind = 0; older = 0 }) in record {
+        ready = h.ready;
+        room = omega (arith, most, far);
+        few = omega arith;
+        goes_on = λ some. absurd (omega (arith, some));
+        passed = h.passed;
+      }
+
   -- the log's value says how its place stands
   pub stands_view : (start : ℕ → ℕ) (m : List ℕ) (p : PageMap T)
       → ((is_paced pages slots sectors p ≡ true) × (extra_slots p ≤ extra))
@@ -513,21 +495,21 @@ module _ {T : Type 0} (pages slots sectors : ℕ) where
 
 module _ {T : Type 0} (pages slots sectors extra : ℕ) where
   -- the pause of a write, as the log's value has it
-  pub pauses_view : {R : Type 0} (start : ℕ → ℕ) (most more again given : ℕ) (old new : FlashState) (p q : PageMap T)
+  pub pauses_view : {R : Type 0} (start : ℕ → ℕ) (most more given : ℕ) (old new : FlashState) (p q : PageMap T)
       (r : Result R DeviceErr)
-      → Pauses most more again old new (WillKeepPace pages slots sectors start old.words extra p)
+      → Pauses most more old new (WillKeepPace pages slots sectors start old.words extra p)
       (KeepsPace pages slots sectors given q) r
-      → Pauses most more again (state_of pages slots old) (state_of pages slots new)
+      → Pauses most more (state_of pages slots old) (state_of pages slots new)
       (((is_paced pages slots sectors p ≡ true) × (extra_slots p ≤ extra))
       ⊎ ((p.ready ≡ false) × IsInPaceFrom pages slots sectors start old.words extra p.tried))
       ((is_paced pages slots sectors q ≡ true) × (extra_slots q ≤ given)) r
-  pauses_view start most more again given old new p q r h = record {
-    short = λ pace. brief_view pages slots most more again old new
+  pauses_view start most more given old new p q r h = record {
+    short = λ pace. brief_view pages slots most more old new
         (h.short (stands_view pages slots sectors extra start old.words p pace));
     stays = λ pace ok. is_paced_by pages slots sectors given q
         (h.stays (stands_view pages slots sectors extra start old.words p pace) ok);
     long = λ same ok. ⊎_elim
-        (λ (z : IsBrief most more again old new). inl (brief_view pages slots most more again old new z))
+        (λ (z : IsBrief most more old new). inl (brief_view pages slots most more old new z))
         (λ (z : KeepsPace pages slots sectors given q). inr (is_paced_by pages slots sectors given q z))
         (h.long same ok);
   }
@@ -598,9 +580,9 @@ module _ {T : Type 0} (pages slots sectors extra : ℕ) where
               more (ready_stays pace))
 
           pub ready_in_pace : Costs 2 2 first found → found.erases ≡ first.erases → Costs 33 2 found stepped
-              → stepped.erases ≤ found.erases + 1 → before → IsBrief 35 2 0 first last
+              → stepped.erases ≤ found.erases + 1 → before → IsBrief 35 2 first last
           ready_in_pace found_work found_erases step_work step_erases pace =
-              subst (λ (f : FlashState). IsBrief 35 2 0 first f) (sym (ready_still pace).1)
+              subst (λ (f : FlashState). IsBrief 35 2 first f) (sym (ready_still pace).1)
               (ready_brief first found stepped found_work found_erases step_work step_erases)
 
           pub ready_moves : (given : ℕ) → (p.ready ≡ true → q.next ≡ p.next) → p.ready ≡ true → before

@@ -1,95 +1,66 @@
--- Laws of a write that is tried again: each try that failed met a Fault, and costs no more slots than that allows.
-use Rattle.std.specs.Prelude.{◌≡◌, ◌≤◌, ◌+◌, ◌*◌, ℕ, Result}
+-- Laws of a write whose record is tried again: each try that failed met a Fault.
+use Rattle.std.specs.Prelude.{◌≤◌, ◌+◌, ℕ, Result, Ok, Err, IsOk, OnOk}
 use Rattle.nvm_board.specs.declared.board.DeviceErr.{DeviceErr}
-use Rattle.std.proofs.Common.{sym, ◌∙◌, inl, inr, ⊎_elim, subst, arith}
-use Rattle.flash_log.specs.declared.place.PageMap.{PageMap}
-use Rattle.flash_device.specs.FlashCalls.{FlashState}
-use Rattle.flash_log.specs.Paces.{IsBrief, KeepsPace, Pauses, WillKeepPace, failed_since, lost_since}
-use Rattle.flash_log.specs.laws.Pacing.{paced_more, stands_more}
+use Rattle.std.proofs.Common.{refl, sym, ◌∙◌, arith, true≢false}
+use Rattle.flash_device.specs.FlashCalls.{FlashState, KeepsPower, Lights, Tries}
+use Rattle.flash_log.specs.Places.{state_of}
 
--- a try that failed, behind others that did
-pub failed_again : (old mid new : FlashState) → mid.faults + 1 ≤ new.faults
-    → (mid.operations + 39 * old.faults ≤ old.operations + 39 * mid.faults)
-    × (mid.erases + old.faults ≤ old.erases + mid.faults)
-    → IsBrief 37 2 0 mid new
-    → (new.operations + 39 * old.faults ≤ old.operations + 39 * new.faults)
-    × (new.erases + old.faults ≤ old.erases + new.faults)
-failed_again old mid new rise was short =
-    let work = short.work.operations in
-    let erases = short.erases in
-    let early = was.0 in
-    let erased = was.1 in (omega (arith, early, work, rise), omega (arith, erased, erases, rise))
+-- what holds of a value, where there is one
+pub holds_ok : {T E P : Type 0} (r : Result T E) → OnOk r P → IsOk r → P
+holds_ok (Ok x) h ok = h
+holds_ok (Err e) h ok = absurd (true≢false (sym ok))
 
--- the last try, behind others that failed
-brief_again : (old mid new : FlashState) → mid.faults ≤ new.faults
-    → (mid.operations + 39 * old.faults ≤ old.operations + 39 * mid.faults)
-    × (mid.erases + old.faults ≤ old.erases + mid.faults)
-    → IsBrief 37 2 0 mid new → IsBrief 37 39 1 old new
-brief_again old mid new rise was short =
-    let work = short.work.operations in
-    let erases = short.erases in
-    let early = was.0 in
-    let erased = was.1 in record {
-      work = record { operations = omega (arith, early, work, rise) };
-      erases = omega (arith, erased, erases, rise);
-    }
+pub ok_holds : {T E P : Type 0} (r : Result T E) → (IsOk r → P) → OnOk r P
+ok_holds (Ok x) h = h refl
+ok_holds (Err e) h = tt
 
-module _ {T : Type 0} (pages slots sectors extra : ℕ) (start : ℕ → ℕ) (old mid new : FlashState)
-    (less : old.faults ≤ mid.faults) (more : mid.faults ≤ new.faults) where
-  -- the place stands behind the last try, which may have lost power
-  pub stands_again : (t : PageMap T) → mid.due ≡ old.due
-      → WillKeepPace pages slots sectors start new.words (extra + failed_since old mid + lost_since mid new) t
-      → WillKeepPace pages slots sectors start new.words (extra + lost_since old new) t
-  stands_again t due =
-      let was = extra + failed_since old mid + lost_since mid new in
-      let fits : was ≤ extra + lost_since old new = omega (arith, less, more, due) in
-      stands_more pages slots sectors start new.words was (extra + lost_since old new) t fits
-      (paced_more pages slots sectors was (extra + lost_since old new) t fits)
+-- one call is a try
+pub lights_tries : {R : Type 0} (old new : FlashState) (r : Result R DeviceErr) → Lights old new r → Tries 1 old new r
+lights_tries old new r h = record {
+  ok = λ e.
+      let is = h.ok e in
+      let same = is.faults in
+      record { lit = is.lit; due = is.due; faults = omega (arith, same) };
+  lost = λ e.
+      let is = h.lost e in
+      let same = is.faults in
+      record { dark = is.dark; due = is.due; faults = omega (arith, same) };
+  fault = λ e.
+      let is = h.fault e in
+      let more = is.faults in
+      (record { lit = is.lit; due = is.due; faults = omega (arith, more) }, omega (arith, more));
+}
 
-  -- and behind one that failed
-  pub stands_failed : (t : PageMap T) → new.due ≡ mid.due
-      → WillKeepPace pages slots sectors start new.words (extra + failed_since old mid + lost_since mid new) t
-      → WillKeepPace pages slots sectors start new.words (extra + failed_since old new) t
-  stands_failed t due =
-      let was = extra + failed_since old mid + lost_since mid new in
-      let fits : was ≤ extra + failed_since old new = omega (arith, less, more, due) in
-      stands_more pages slots sectors start new.words was (extra + failed_since old new) t fits
-      (paced_more pages slots sectors was (extra + failed_since old new) t fits)
+-- tries behind others, which met so many Faults
+pub tries_behind : {R : Type 0} (n least most : ℕ) (old mid new : FlashState) (r : Result R DeviceErr)
+    → KeepsPower old mid → old.faults + n ≤ mid.faults → most ≤ n + least → Tries least mid new r → Tries most old new r
+tries_behind n least most old mid new r kept met fits tries = record {
+  ok = λ e.
+      let is = tries.ok e in
+      let less = kept.faults in
+      let more = is.faults in
+      record { lit = is.lit; due = is.due ∙ kept.due; faults = omega (arith, less, more) };
+  lost = λ e.
+      let is = tries.lost e in
+      let less = kept.faults in
+      let more = is.faults in
+      record { dark = is.dark; due = sym kept.due ∙ is.due; faults = omega (arith, less, more) };
+  fault = λ e.
+      let is = tries.fault e in
+      let less = kept.faults in
+      let more = is.0.faults in
+      let most = is.1 in (
+        record { lit = is.0.lit; due = is.0.due ∙ kept.due; faults = omega (arith, less, more) },
+        omega (arith, met, most, fits),
+      );
+}
 
-  -- how long all tries took
-  pub pauses_again : {R : Type 0} (p q t : PageMap T) (r : Result R DeviceErr)
-      → (mid.faults ≡ old.faults → (q ≡ p) × (mid ≡ old))
-      → (WillKeepPace pages slots sectors start old.words extra p
-      → (mid.operations + 39 * old.faults ≤ old.operations + 39 * mid.faults)
-      × (mid.erases + old.faults ≤ old.erases + mid.faults))
-      → (WillKeepPace pages slots sectors start old.words extra p
-      → WillKeepPace pages slots sectors start mid.words (extra + failed_since old mid) q)
-      → Pauses 37 2 0 mid new (WillKeepPace pages slots sectors start mid.words (extra + failed_since old mid) q)
-      (KeepsPace pages slots sectors (extra + failed_since old mid + failed_since mid new) t) r
-      → Pauses 37 39 1 old new (WillKeepPace pages slots sectors start old.words extra p)
-      (KeepsPace pages slots sectors (extra + failed_since old new) t) r
-  pauses_again p q t r first brief stood h = record {
-    short = λ pace. brief_again old mid new more (brief pace) (h.short (stood pace));
-    stays = λ pace ok. given (h.stays (stood pace) ok);
-    long = λ same ok.
-        let none : mid.faults ≡ old.faults = omega (arith, less, more, same) in
-        let is = (first none).1 in
-        ⊎_elim
-        (λ (short : IsBrief 37 2 0 mid new).
-        inl (once same (subst (λ (s : FlashState). IsBrief 37 2 0 s new) is short)))
-        (λ (z : KeepsPace pages slots sectors (extra + failed_since old mid + failed_since mid new) t). inr (given z))
-        (h.long (same ∙ sym none) ok);
-  }
-    where
-      given : KeepsPace pages slots sectors (extra + failed_since old mid + failed_since mid new) t
-          → KeepsPace pages slots sectors (extra + failed_since old new) t
-      given = paced_more pages slots sectors (extra + failed_since old mid + failed_since mid new)
-          (extra + failed_since old new) t (omega (arith, less, more))
-
-      once : new.faults ≡ old.faults → IsBrief 37 2 0 old new → IsBrief 37 39 1 old new
-      once same short =
-          let work = short.work.operations in
-          let erases = short.erases in record {
-            work = record { operations = omega (arith, work, same) };
-            erases = omega (arith, erases, same);
-          }
+-- the same of what a log's value shows
+pub tries_view : {R : Type 0} (pages slots least : ℕ) (old new : FlashState) (r : Result R DeviceErr)
+    → Tries least old new r → Tries least (state_of pages slots old) (state_of pages slots new) r
+tries_view pages slots least old new r tries = record {
+  ok = λ e. let is = tries.ok e in record { lit = is.lit; due = is.due; faults = is.faults };
+  lost = λ e. let is = tries.lost e in record { dark = is.dark; due = is.due; faults = is.faults };
+  fault = λ e.
+      let is = tries.fault e in (record { lit = is.0.lit; due = is.0.due; faults = is.0.faults }, is.1);
+}

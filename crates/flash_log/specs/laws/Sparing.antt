@@ -482,12 +482,12 @@ module _ (pages slots : ℕ) where
     }
 
     -- a page is written: its copy is older now, if it has one
-    pub spare_written : (m words new : List ℕ) (turn erased copied behind page o : ℕ)
-        → IsSpare pages slots sectors start m words turn erased copied behind 0
+    pub spare_written : (m words new : List ℕ) (turn erased copied behind page was o : ℕ)
+        → (was ≡ 0) ⊎ (was ≡ page + 1) → IsSpare pages slots sectors start m words turn erased copied behind was
         → ((p k : ℕ) → p ≢ page → k < 16 → slice_index new (16 * p + k) ≡ slice_index words (16 * p + k))
         → (page < STEP_PAGES * copied → o ≡ page + 1) → (STEP_PAGES * copied ≤ page → o ≡ 0)
         → IsSpare pages slots sectors start m new turn erased copied behind o
-    spare_written m words new turn erased copied behind page o spare others one none = record {
+    spare_written m words new turn erased copied behind page was o own spare others one none = record {
       within = spare.within;
       most = spare.most;
       idle = spare.idle;
@@ -502,7 +502,10 @@ module _ (pages slots : ℕ) where
         free = has.free;
         each = λ p k lt below but few.
             let other : p ≢ page = λ is. let o_is = one (omega (arith, is, lt)) in but (omega (arith, is, o_is)) in
-            has.each p k lt below (λ z. absurd (omega (arith, z))) few ∙ sym (others p k other few);
+            has.each p k lt below (λ (is : p + 1 ≡ was). ⊎_elim
+            (λ (e : was ≡ 0). absurd (omega (arith, is, e)))
+            (λ (e : was ≡ page + 1). other (omega (arith, is, e)))
+            own) few ∙ sym (others p k other few);
         left = has.left;
       };
     }

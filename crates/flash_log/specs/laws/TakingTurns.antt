@@ -8,7 +8,8 @@ use Rattle.flash_device.specs.FlashCalls.{FlashState, SameElsewhere}
 use Rattle.flash_device.specs.FlashLogs.{base_in, slot_of, turn_of}
 use Rattle.flash_device.specs.PageTables.{AreFree}
 use Rattle.flash_device.specs.laws.Marks.{elsewhere_then, elsewhere_wider}
-use Rattle.flash_log.specs.Paces.{HasStepped, KeepsPace, LogState, extra_slots, free_slots, lead_of}
+use Rattle.flash_area.specs.Spares.{copies_most}
+use Rattle.flash_log.specs.Paces.{HasStepped, KeepsPace, LogState, extra_slots, free_slots, lead_of, move_steps_of}
 use Rattle.flash_log.specs.Places.{log_value}
 use Rattle.flash_log.specs.SlotsInTurn.{FindsNext, IsNextSlot, TakesInTurn, WillTake, passed_slots}
 use Rattle.flash_log.specs.laws.Pacing.{free_of, is_paced_by, paced_is, steps_most}
@@ -99,6 +100,21 @@ module _ (slots : ℕ) where
     only = record { same = λ k outside. ap (λ (l : List ℕ). slice_index l k) h.raw };
     turn = ap (turn_of slots) h.raw;
   }
+
+  -- one that found it, and went on
+  pub finds_then : (n few : ℕ) (old mid new : LogState) → FindsNext slots n old mid → TakesInTurn slots n few mid new
+      → TakesInTurn slots n few old new
+  finds_then n few old mid new h after = let still = h.operations in
+      takes_then n 0 few few old mid new (omega arith) (record {
+        next = n;
+        takes = h.takes;
+        on = omega arith;
+        few = omega arith;
+        programs = omega (arith, still);
+        erases = h.erases;
+        only = record { same = λ k outside. ap (λ (l : List ℕ). slice_index l k) h.raw };
+        turn = ap (turn_of slots) h.raw;
+      }) after
 
   -- one that put its record, whole or torn
   pub puts_takes : (n : ℕ) (old mid new : LogState) → FindsNext slots n old mid
@@ -279,44 +295,72 @@ module _ {T : Type 0} (pages slots sectors : ℕ) where
       (subst (λ (k : ℕ). WillTake slots (log_value pages slots sectors new t) (k + 1)) next
       (takes (subst (λ (b : ℕ). AreFree new.words b (q.next + 1) slots) here free)))
 
+  -- a log that has found its pages has found the slot of its next try
+  pub found_still : (s : FlashState) (p : PageMap T) (extra : ℕ) → KeepsPace pages slots sectors extra p
+      → AreFree s.words (base_in slots (turn_of slots s.words)) p.next slots
+      → FindsNext slots p.next (log_value pages slots sectors s p) (log_value pages slots sectors s p)
+  found_still s p extra pace free = record {
+    once = omega arith;
+    none = λ ready. refl;
+    raw = refl;
+    operations = refl;
+    erases = refl;
+    takes = found_takes s p extra pace free;
+  }
+
+  -- A try finds its slot again, with the slots of a whole move behind it: so it is in pace, however far that is.
+  pub finds_again : (old : FlashState) (p q : PageMap T) (n : ℕ) → q.ready ≡ true
+      → AreFree old.words (base_in slots (turn_of slots old.words)) q.next slots
+      → (p.ready ≡ true → q ≡ p) → q.tried ≡ p.tried
+      → (p.ready ≡ false → IsNextSlot slots old.words p.tried n → q.next ≡ n)
+      → (p.ready ≡ false → 0 < q.copied + q.behind → slots ≤ q.next + lead_of pages sectors)
+      → n + move_steps_of pages sectors < slots → WillTake slots (log_value pages slots sectors old p) n
+      → (q.next ≡ n) × KeepsPace pages slots sectors q.behind q
+  finds_again old p q n there free known tried finds begun far takes = by_ready p.ready refl
+    where
+      by_ready : (b : Bool) → p.ready ≡ b → (q.next ≡ n) × KeepsPace pages slots sectors q.behind q
+      by_ready true is =
+          let same = known is in
+          let as_found = ap (λ (z : PageMap T). z.next) same in
+          let given : extra_slots p ≡ p.behind - copies_most p.copied 0 =
+          ap (λ (b : Bool). if b then p.behind - copies_most p.copied 0 else 0) is in (
+            as_found ∙ next_is old p n is
+                (subst (λ (k : ℕ). AreFree old.words (base_in slots (turn_of slots old.words)) k slots) as_found free)
+                takes,
+            subst (λ (z : PageMap T). KeepsPace pages slots sectors z.behind z) (sym same)
+                (paced_is pages slots sectors p.behind p (takes.paced is) (omega (arith, given))),
+          )
+      by_ready false is =
+          let next = finds is (takes_tried old p n is takes) in
+          let passed = (takes_tried old p n is takes).passed in
+          let most = steps_most pages slots sectors q in (
+            next,
+            record {
+              ready = there;
+              room = omega (arith, most, far, next);
+              few = omega arith;
+              goes_on = begun is;
+              passed = omega (arith, passed, tried, next);
+            },
+          )
+
+  -- its record goes there
+  pub finds_own : (old mid : FlashState) (p q : PageMap T) (n extra : ℕ) → mid.words ≡ old.words
+      → mid.operations ≡ old.operations → mid.erases ≡ old.erases → mid.faults ≡ old.faults → q.next ≡ n
+      → KeepsPace pages slots sectors extra q
+      → AreFree mid.words (base_in slots (turn_of slots mid.words)) q.next slots
+      → FindsNext slots n (log_value pages slots sectors old p) (log_value pages slots sectors mid q)
+  finds_own old mid p q n extra words operations erases faults next pace free = record {
+    once = omega (arith, faults);
+    none = λ ready. faults;
+    raw = words;
+    operations = operations;
+    erases = erases;
+    takes = subst (WillTake slots (log_value pages slots sectors mid q)) next (found_takes mid q extra pace free);
+  }
+
   -- a try that failed met one Fault
   pub put_once : (old mid new : FlashState) (p q : PageMap T) (n : ℕ) → q.ready ≡ true
       → FindsNext slots n (log_value pages slots sectors old p) (log_value pages slots sectors mid q)
       → new.faults ≤ mid.faults + 1 → new.faults ≤ old.faults + 1
   put_once old mid new p q n ready found more = let none = found.none ready in omega (arith, none, more)
-
-  -- so tries that failed met as many
-  pub once_again : (old mid new : FlashState) (p q : PageMap T) (n counter : ℕ) → old.faults ≤ mid.faults
-      → mid.faults + 1 ≤ old.faults + counter
-      → n + lead_of pages sectors + counter ≤ slots
-      → (n + lead_of pages sectors + (mid.faults - old.faults) < slots
-      → WillTake slots (log_value pages slots sectors old p) n
-      → TakesInTurn slots n (mid.faults - old.faults) (log_value pages slots sectors old p)
-      (log_value pages slots sectors mid q))
-      → ((k : ℕ) → k + lead_of pages sectors < slots → WillTake slots (log_value pages slots sectors mid q) k
-      → new.faults ≤ mid.faults + 1)
-      → WillTake slots (log_value pages slots sectors old p) n → new.faults ≤ old.faults + counter
-  once_again old mid new p q n counter less met far before again takes =
-      let first = before (omega (arith, less, met, far)) takes in
-      let few = first.few in
-      let more = again first.next (omega (arith, less, met, far, few)) first.takes in
-      omega (arith, met, more)
-
-  -- one more try, behind those that failed
-  pub takes_again : (old mid new : FlashState) (p q t : PageMap T) (n most : ℕ) → old.faults ≤ mid.faults
-      → mid.faults ≤ new.faults → mid.faults - old.faults + 1 ≤ most
-      → (n + lead_of pages sectors + (mid.faults - old.faults) < slots
-      → WillTake slots (log_value pages slots sectors old p) n
-      → TakesInTurn slots n (mid.faults - old.faults) (log_value pages slots sectors old p)
-      (log_value pages slots sectors mid q))
-      → ((k : ℕ) → k + lead_of pages sectors < slots → WillTake slots (log_value pages slots sectors mid q) k
-      → TakesInTurn slots k 1 (log_value pages slots sectors mid q) (log_value pages slots sectors new t))
-      → n + lead_of pages sectors + (new.faults - old.faults) < slots
-      → WillTake slots (log_value pages slots sectors old p) n
-      → TakesInTurn slots n most (log_value pages slots sectors old p) (log_value pages slots sectors new t)
-  takes_again old mid new p q t n most less more fits before again far takes =
-      let first = before (omega (arith, less, more, far)) takes in
-      let few = first.few in
-      takes_then slots n (mid.faults - old.faults) 1 most (log_value pages slots sectors old p)
-      (log_value pages slots sectors mid q) (log_value pages slots sectors new t) fits first
-      (again first.next (omega (arith, less, more, far, few)) first.takes)

@@ -1,24 +1,24 @@
 """The moves of the log on a flash, and what a power-on finds of them (docs/FLASH.md, "Layout" and "The pause").
 
 These are the writes of a session behind the factory card, by their numbers. The card's P = 1,024 pages fill as many of
-the S = 1,280 slots of area A. A write takes a slot, and from N + P/16 + 1 = 116 free ones on a step.
+the S = 1,280 slots of area A. A write takes a slot, and from N + P/16 + 9 = 124 free ones on a step.
 
 | writes | what their step does |
 |---|---|
-| 1 to 140 | nothing, with 256 to 117 free slots |
-| 141 to 191 | erases the next of the 51 sectors of area B, which are blank on a new flash |
-| 192 to 255 | copies the next 16 pages to B; the last of these passes the turn to B |
-| 256 to 336 | nothing, with 197 to 117 free slots |
-| 337 | erases the witness, and closes B |
-| 338 to 388 | erases the next sector of A, which is full of records |
-| 389 to 452 | copies the next 16 pages to A; the last of these passes the turn to A |
+| 1 to 132 | nothing, with 256 to 125 free slots |
+| 133 to 183 | erases the next of the 51 sectors of area B, which are blank on a new flash |
+| 184 to 247 | copies the next 16 pages to B; the last of these passes the turn to B |
+| 248 to 320 | nothing, with 197 to 125 free slots |
+| 321 | erases the witness, and closes B |
+| 322 to 372 | erases the next sector of A, which is full of records |
+| 373 to 436 | copies the next 16 pages to A; the last of these passes the turn to A |
 
 CREATE makes writes 1 to 10, and each UPDATE four: a pair in page 74 of the journal, the gate in page 73, the word in
 page 129, the gate. If a write is of a page that has a copy, the next write copies that page again before its step.
-Pages 73 and 74 have copies from write 196 on, which copies pages 64 to 79, and page 129 from write 200 on. So behind
-writes 196 to 254, all but the word of write 197, a page is copied again: 58 records in B beside the 1,024 copies. Write
-255 is in B alone. Then 1,280 - 1,024 - 58 - 1 = 197 slots are free. In the second move these are writes 394 to 451, as
-write 393 is a word, and write 452 is in A alone.
+Pages 73 and 74 have copies from write 188 on, which copies pages 64 to 79, and page 129 from write 192 on. So behind
+writes 188 to 246, all but the word of write 189, a page is copied again: 58 records in B beside the 1,024 copies. Write
+247 is in B alone. Then 1,280 - 1,024 - 58 - 1 = 197 slots are free. In the second move these are writes 378 to 435, as
+write 377 is a word, and write 436 is in A alone.
 
 Behind a power-on the log finds that page by reading: the first one that differs from its copy. So a write that leaves
 its page as it was has no copy behind it."""
@@ -42,9 +42,9 @@ SAME, AGAIN = UPDATE.replace("01020304", "FFFFFFFF"), f"{SELECT}\n{UPDATE}"
 # those of an update of the file's next word: its pair has another address
 OTHER = AGAIN.replace("D6000004", "D6000404")
 SECTORS, SECTOR_WORDS, PAGES, STEP = 51, 502, 1024, 16
-# The updates of a session up to write 142, the second one that erases B; up to write 342, the fifth one that erases A;
-# up to write 390, the second one that copies to A; and up to write 402, the 14th one.
-TO_ERASES_OF_B, TO_ERASES_OF_A, TO_COPIES, TO_MORE_COPIES = 33, 83, 95, 98
+# The updates of a session up to write 134, the second one that erases B; up to write 326, the fifth one that erases A;
+# up to write 374, the second one that copies to A; and up to write 386, the 14th one.
+TO_ERASES_OF_B, TO_ERASES_OF_A, TO_COPIES, TO_MORE_COPIES = 31, 79, 91, 94
 ERASED, COPIED, MORE_COPIED = 5, 2, 14
 # the page of PIN 1: on this card pages 32 to 64 are entries without a file, all zeros
 FIRST_PIN_PAGE = 65
@@ -56,7 +56,7 @@ MOST = COPIES_MORE + 1
 SINGLE_WRITES, BETWEEN = 4 * PAGES, 128
 # One of so many sessions of one write loses power at an operation, so many operations from that of the one before. So
 # many of these are tried.
-LOST_EVERY, LOST_APART, LOST_WRITES = 9, 4, 6 * MOST
+LOST_EVERY, LOST_APART, LOST_WRITES = 11, 5, 5 * MOST
 
 
 def session(updates: int) -> list[str]:
@@ -121,7 +121,7 @@ def check_copies(moves: Moves) -> None:
     same = moves.tests.same
     bench = moves.bench("copies", session(TO_MORE_COPIES))
     old = pages_in(bench.flash(), 0)
-    # (the pages of writes 394 to 401 are copied again; that of write 402, the gate, is older)
+    # (the pages of writes 378 to 385 are copied again; that of write 386, the gate, is older)
     same((len(old), sorted({*old})), (STEP * MORE_COPIED + 8, pages_of(*range(MORE_COPIED))), "14 steps are taken")
     for step, line, older in ((MORE_COPIED, OTHER, GATE_PAGE), (MORE_COPIED + 1, AGAIN, PAIR_PAGE)):
         same(bench.operations(line), COPIES_MORE, f"16 pages are copied, and before them an older one: step {step}")
@@ -229,7 +229,7 @@ class LostWrite:
 
 
 def lost_writes(bench: FlashBench, mask: str) -> Iterator[LostWrite]:
-    """Every 9th session of one write loses power at an operation, of 0 to 36; the others do by this mask."""
+    """Every 11th session of one write loses power at an operation, of 0 to 36; the others do by this mask."""
     for lost in range(LOST_WRITES):
         *others, lines = ((AGAIN, OTHER)[(LOST_EVERY * lost + it) % 2] for it in range(LOST_EVERY))
         bench.run("".join(f"cut 1 {mask}\non\n{it}\n" for it in others))
@@ -239,11 +239,11 @@ def lost_writes(bench: FlashBench, mask: str) -> Iterator[LostWrite]:
 
 
 def check_losses(moves: Moves) -> None:
-    """Sessions of one write each, through several moves, where every 9th loses power at an operation. At most 9 of them
-    fall into the 64 steps that copy. One at operation 0 or 1 takes a slot of the other area, one at operation k up to
-    33 takes k / 2, a later one none. With 4 operations from one to the next, 9 of them take at most 73 slots. The area
-    has 1,280 - 1,024 - 64 - 116 = 76 for them, so no other session has more than 37 operations. Behind each of them the
-    words are old, or those of the write, which has a pair."""
+    """Sessions of one write each, through several moves, where every 11th loses power at an operation. At most 7 of
+    them fall into the 64 steps that copy. One at operation 0 or 1 takes a slot of the other area, one at operation k up
+    to 33 takes k / 2, a later one none. With 5 operations from one to the next, 7 of them take at most 61 slots. The
+    area has 1,280 - 1,024 - 64 - 124 = 68 for them, so no other session has more than 37 operations. Behind each of
+    them the words are old, or those of the write, which has a pair."""
     for seed in (COMPLEMENTS, SEED):
         # (a power loss behind a write, and one at operation 37)
         benches = [moves.bench(f"losses {seed} {it}", [*session(0), "off"]) for it in range(2)]

@@ -33,8 +33,8 @@ READ = "apdu 00B000000A"
 NEW = "< 01020304FFFFFFFFFFFF9000"
 # whether a pair counts behind a torn mark of the gate: then the next power-on has a first write
 PAIR_COUNTS = ("on", CREATE, "cut 2 0002", UPDATE, "cut 1 0001", "on")
-# behind so many updates in one session all 51 sectors are erased, and 48 pages are copied: up to write 194 (moves.py)
-UPDATES_TO_COPIES = 46
+# behind so many updates in one session all 51 sectors are erased, and 48 pages are copied: up to write 186 (moves.py)
+UPDATES_TO_COPIES = 44
 SEEDS, FIRST_SEED = 7, 38
 # seconds until a sweep has begun, at most
 PATIENCE = 60
@@ -158,7 +158,7 @@ def check_move(room: Room) -> None:
 
 
 def check_copies(room: Room) -> None:
-    """Each write copies 16 pages: a record and a mark for each, and for its own page. The second one, write 196, copies
+    """Each write copies 16 pages: a record and a mark for each, and for its own page. The second one, write 188, copies
     page 73 and writes it, the gate. So the third first copies it again."""
     script = room.folder / "copies.script"
     lines = [*moves.session(UPDATES_TO_COPIES), "# command", UPDATE, "# probe", SELECT, READ]

@@ -34,8 +34,8 @@ MAP_SECTOR = OWN + SPARES
 WORN_SECTOR = MAP_SECTOR + 2
 # updates within which one sector is erased again, and within which each is
 SOME, ROUND = 100, 260
-# the number of the first update behind these, and the free slots from which on a write takes a step of a move
-LAST, LEAD = SOME + ROUND, 1 + 1024 // 16 + 1
+# the number of the first update behind these, and the steps of a move in turn 0 or 2; in turn 1 it has one more
+LAST, STEPS = SOME + ROUND, 1 + 1024 // 16
 FAILED, SEED = "< 6581", 20_261_129
 # the longest life, that of a card that has to take a spare first, and the time that a switch takes, in seconds
 LONG, LONG_ENOUGH, SWITCH = 5.0, 300.0, 0.6
@@ -198,18 +198,21 @@ def compare_uses(room: Room, program: Path) -> None:
 
 
 def compare_worn_out(room: Room, program: Path, flash: Path, rolls_back: bool) -> None:
-    """A write whose step has to erase a sector fails where no spare is left. Behind a power-on reads go on, unless the
-    write was one of a transaction whose pair counts: then the power-on fails, since it can't roll back.
+    """Where no spare is left, no step of a move can erase its sector. Then writes go on as long as a slot is free
+    beside those of the steps. Behind a power-on reads go on, unless the write that fails was one of a transaction whose
+    pair counts: then the power-on fails, since it can't roll back.
 
     A write takes a slot. VERIFY makes two writes, and an update four: a pair, the gate, the word, the gate. So the pair
     counts where two or three of the four are made."""
-    left = log_of(flash).areas[log_of(flash).home].free - LEAD
+    log = log_of(flash)
+    left = log.areas[log.home].free - STEPS - (log.turn == 1)
     room.checks.check(left > 2 * 2, "a move is still to begin", f"{left}")
     counts = (left - 2) % 4 >= 2
     verified = 1 if counts == rolls_back else 2
     made_updates = (left - 2 * verified) // 4
     ran = played(program, flash, ["on", SELECT, *[RIGHT] * verified, *map(update, range(LAST, LAST + ROUND))])
-    room.checks.same(ran[1:], [DONE] * (1 + verified + made_updates) + [FAILED], "writes fail where no spare is left")
+    done = [DONE] * (1 + verified + made_updates)
+    room.checks.same(ran[1:], [*done, FAILED], "writes fail where no spare and no slot is left")
     room.checks.same(taken(flash).used, SPARES, "all spares were tried")
     again = played(program, flash, ["on", SELECT, READ])
     if rolls_back:

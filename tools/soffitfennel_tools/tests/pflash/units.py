@@ -40,17 +40,17 @@ def compare_make(room: Room) -> None:
 
 def compare_notes(room: Room) -> None:
     """A port with too few slots for short writes is written, and a note says how many would do (docs/FLASH.md, "The
-    pause"). By hand: 4,096 pages need 4,096 + 512 + 1 slots and one for each of 2 sectors. 1,024 need 1,153 and one for
-    each sector: with sectors of 64 words 1,678 slots have 525; in frames of 32 words 2,307 slots have 1,154."""
+    pause"). By hand: 4,096 pages need 4,096 + 512 + 9 slots and one for each of 2 sectors. 1,024 need 1,161 and one for
+    each sector: with sectors of 64 words 1,689 slots have 528; in frames of 32 words 2,323 slots have 1,162."""
     cases: tuple[tuple[list[object], str], ...] = (
         ([], ""),
-        (["--pages", 4096, "--slots", 4352], "4,611"),
-        (["--pages", 4096, "--slots", 4610], "4,611"),
-        (["--pages", 4096, "--slots", 4611], ""),
-        (["--sector-words", 64, "--slots", 1677], "1,678"),
-        (["--sector-words", 64, "--slots", 1678], ""),
-        (["--unit", 4, "--sector-words", 64], "2,307"),
-        (["--unit", 4, "--sector-words", 64, "--slots", 2307], ""),
+        (["--pages", 4096, "--slots", 4352], "4,619"),
+        (["--pages", 4096, "--slots", 4618], "4,619"),
+        (["--pages", 4096, "--slots", 4619], ""),
+        (["--sector-words", 64, "--slots", 1688], "1,689"),
+        (["--sector-words", 64, "--slots", 1689], ""),
+        (["--unit", 4, "--sector-words", 64], "2,323"),
+        (["--unit", 4, "--sector-words", 64, "--slots", 2323], ""),
     )
     for at, (words, least) in enumerate(cases):
         port = room.folder / f"noted{at}"

@@ -2,7 +2,7 @@ use Rattle.std.proofs.Common.{◌≡◌, ◌<◌, ◌≤◌, ◌+◌, ◌∙◌,
 use Rattle.flash_device.specs.FlashLogs.{base_in}
 use Rattle.flash_device.specs.PageTables.{AreFree}
 use Rattle.flash_log.specs.Paces.{IsCaughtUp, IsRoomy, KeepsPace, extra_of, failed_since, lead_of}
-use Rattle.flash_log.specs.Paces.{lost_since}
+use Rattle.flash_log.specs.Paces.{lost_since, move_steps_of}
 use Rattle.flash_log.specs.laws.Ending.{HasTaken, all_taken, caught_on, ended_pace, failed_stands, found_far}
 use Rattle.flash_log.specs.laws.Ending.{looked_anew, will_more, stepped_on_caught, stepped_stands}
 use Rattle.flash_log.specs.laws.Ending.{taken_more}
@@ -124,7 +124,7 @@ returns-in_err-take_step-clause-work g c = record {
       let found = c.find_pages.ensures.work in
       let copied = c.copy_older.ensures.work.operations in
       let step = c.take_step.ensures.work.operations in
-      let lead = c.lead-end.ensures in
+      let lead = c.move_steps-end.ensures in
       let test = c.loop-test.true in
       omega (arith, a, was, found, copied, step, lead, test);
 }
@@ -209,10 +209,10 @@ returns-clause-room g c = λ extra roomy pace.
     let taken : HasTaken pages slots sectors (first + failed_since mid now) c.loop.counter c.loop.place =
     was.taken first (omega (arith, roomy, a, more, rise)) caught in
     let known = was.log.known was.ready in
-    let lead = c.lead-end.ensures in
+    let lead = c.move_steps-end.ensures in
     let test = c.loop-test.false in
     let end = c.loop.auto.counter-end in
-    let all : c.loop.counter ≡ lead_of pages sectors = omega (arith, lead, test, end) in
+    let all : c.loop.counter ≡ move_steps_of pages sectors = omega (arith, lead, test, end) in
     let far : c.loop.place.next + lead_of pages sectors < slots =
     all_taken pages slots sectors (first + failed_since mid now) c.loop.place known.spare.most
     (subst (λ (i : ℕ). HasTaken pages slots sectors (first + failed_since mid now) i c.loop.place) all taken) in
@@ -253,10 +253,10 @@ returns-clause-stands g c = λ extra roomy pace.
     let taken : HasTaken pages slots sectors (first + failed_since mid now) c.loop.counter c.loop.place =
     was.taken first (omega (arith, roomy, a, more, rise)) caught in
     let known = was.log.known was.ready in
-    let lead = c.lead-end.ensures in
+    let lead = c.move_steps-end.ensures in
     let test = c.loop-test.false in
     let end = c.loop.auto.counter-end in
-    let all : c.loop.counter ≡ lead_of pages sectors = omega (arith, lead, test, end) in
+    let all : c.loop.counter ≡ move_steps_of pages sectors = omega (arith, lead, test, end) in
     let far : c.loop.place.next + lead_of pages sectors < slots =
     all_taken pages slots sectors (first + failed_since mid now) c.loop.place known.spare.most
     (subst (λ (i : ℕ). HasTaken pages slots sectors (first + failed_since mid now) i c.loop.place) all taken) in
@@ -272,7 +272,7 @@ returns-clause-work g c = record {
       let was = c.loop.invariant.operations in
       let found = c.find_pages.ensures.work in
       let copied = c.copy_older.ensures.work.operations in
-      let lead = c.lead-end.ensures in
+      let lead = c.move_steps-end.ensures in
       let end = c.loop.auto.counter-end in
       omega (arith, a, was, found, copied, lead, end);
 }

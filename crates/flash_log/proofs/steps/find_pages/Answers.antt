@@ -112,6 +112,22 @@ returns-clause-looks g c = λ fresh.
     let is = fresh_is g.F.Flash.PAGES g.F.Flash.SLOTS g.F.Flash.SECTORS c.args.place.now fresh in
     inr (returns-clause-found g c is.0 is.1)
 
+pub returns-then-place-clause-begun : goal.returns-then-place-clause-begun
+returns-then-place-clause-begun g c = λ unready some. absurd (true≢false (sym c.if-place.true ∙ unready))
+
+pub returns-clause-begun : goal.returns-clause-begun
+returns-clause-begun g c = λ unready some.
+    let slots = g.F.Flash.SLOTS in
+    let lead = lead_of g.F.Flash.PAGES g.F.Flash.SECTORS in
+    let next = c.later-next.result in
+    ⊎_elim
+    (λ (far : next + lead < slots).
+    let none = c.in_ok-progress.ensures.idle far in
+    let copied = none.0 in
+    let behind = none.1 in absurd (omega (arith, copied, behind, some)))
+    (λ (near : slots ≤ next + lead). near)
+    (cases_lt (next + lead) slots)
+
 pub returns-then-place-clause-paced : goal.returns-then-place-clause-paced
 returns-then-place-clause-paced g c = λ extra unready far. absurd (true≢false (sym c.if-place.true ∙ unready))
 
@@ -221,14 +237,8 @@ returns-clause-in_pace g c = λ extra fits. ⊎_elim
     (λ (le : tried ≤ next). le)
     (λ (e : next ≡ slots). omega (arith, e, passed, within))
     c.later-next.ensures.passed in
-    let due : 0 < progress.copied + progress.behind → slots ≤ next + lead_of pages sectors = λ some. ⊎_elim
-    (λ (far : next + lead_of pages sectors < slots).
-    let none = c.in_ok-progress.ensures.idle far in
-    let copied = none.0 in
-    let behind = none.1 in absurd (omega (arith, copied, behind, some)))
-    (λ (near : slots ≤ next + lead_of pages sectors). near)
-    (cases_lt (next + lead_of pages sectors) slots) in
-    paced_found pages slots sectors extra start m _ refl c.in_ok-turn.ensures.turn due
+    paced_found pages slots sectors extra start m _ refl c.in_ok-turn.ensures.turn
+    (returns-clause-begun g c c.if-place.false)
     (subst (λ (l : List ℕ). KeepsSteps pages slots sectors start l turn next (extra_of pages slots sectors)
     progress.erased progress.copied progress.behind) words c.in_ok-progress.ensures.keeps)
     fits after is least)

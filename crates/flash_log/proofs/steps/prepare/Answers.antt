@@ -107,7 +107,7 @@ returns-clause-pause g c = λ extra roomy.
           (omega (arith, roomy, most)) there more.due last t
           c.make_room.ensures.same pace;
       long = λ same ok. ⊎_elim
-          (λ (lt : s.next < slots). inl (subst (λ (f : FlashState). IsBrief 35 2 0 old f)
+          (λ (lt : s.next < slots). inl (subst (λ (f : FlashState). IsBrief 35 2 old f)
           (sym (c.make_room.ensures.same lt).1)
           (ready_brief old found stepped c.catch_up.ensures.work c.catch_up.ensures.erases c.take_step.ensures.work
           c.take_step.ensures.erases)))

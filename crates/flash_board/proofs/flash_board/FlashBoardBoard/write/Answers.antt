@@ -1,3 +1,5 @@
+use Rattle.std.specs.Prelude.{IsErrOf}
+use Rattle.nvm_board.specs.declared.board.DeviceErr.TheVariants.{Fault}
 use Rattle.std.proofs.Common.{refl, sym, rules, true≢false, arith}
 use Rattle.nvm_board.specs.Facts.{address, IsLostRightly}
 use Rattle.nvm_board.specs.laws.Torn.{Torn-none}
@@ -215,3 +217,8 @@ returns-then-self-clause-slots g c = λ n far takes.
 pub returns-then-self-2-clause-slots : goal.returns-then-self-2-clause-slots
 returns-then-self-2-clause-slots g c = λ n far takes.
     takes_more g.F.Flash.SLOTS n 0 _ _ _ (omega arith) (takes_none g.F.Flash.SLOTS n c.args.self.now.log takes)
+
+pub returns-else-self-3-clause-keeps_trying : goal.returns-else-self-3-clause-keeps_trying
+returns-else-self-3-clause-keeps_trying g c = λ failed n far takes.
+    let is : IsErrOf c.write-ended.result Fault = search rules in
+    ((c.write-ended.ensures.keeps_trying n far takes).fault is).1

@@ -6,7 +6,9 @@ use Rattle.flash_log.specs.Paces.{extra_slots, failed_since, free_slots, is_pace
 use Rattle.flash_log.specs.Places.{FindsFree, log_value, state_of}
 use Rattle.flash_log.specs.SlotsInTurn.{TakesInTurn, WillTake}
 use Rattle.flash_log.specs.laws.Pacing.{paced_is, pauses_view, stands_view, takes_view, view_stands}
-use Rattle.flash_log.specs.declared.steps.TheConstants.{TRIES}
+use Rattle.flash_log.specs.declared.ahead.TheConstants.{TRIES}
+use Rattle.flash_log.specs.laws.Retrying.{tries_view}
+use Rattle.flash_device.specs.FlashCalls.{Tries}
 use Rattle.flash_log.proofs.flash_log.FlashLog.write.Goals as goal
 
 pub returns-clause-pause : goal.returns-clause-pause
@@ -19,10 +21,10 @@ returns-clause-pause g c = λ extra.
     let place = c.write_at.new.place in
     let start = g.F.Flash.sector_start in
     subst (λ (l : LogState). IsRoomy pages slots sectors (extra + failed_since l.flash (state_of pages slots new))
-    → Pauses 37 39 1 l.flash (state_of pages slots new) (StandsInPace pages slots sectors start extra l)
+    → Pauses 37 2 l.flash (state_of pages slots new) (StandsInPace pages slots sectors start extra l)
     ((is_paced pages slots sectors place ≡ true)
     × (extra_slots place ≤ extra + failed_since l.flash (state_of pages slots new))) c.write_at.result) c.self.view_is
-    (λ roomy. pauses_view pages slots sectors extra start 37 39 1 (extra + failed_since old new) old new
+    (λ roomy. pauses_view pages slots sectors extra start 37 2 (extra + failed_since old new) old new
     c.self.inside.place place c.write_at.result (c.write_at.ensures.pause extra roomy))
 
 pub returns-clause-calm : goal.returns-clause-calm
@@ -48,6 +50,16 @@ returns-clause-slots g c = λ n.
     let after = log_value pages slots sectors new c.write_at.new.place in
     subst (λ (l : LogState). n + lead_of pages sectors + (new.faults - l.flash.faults) < slots → WillTake slots l n
     → TakesInTurn slots n (1 + (new.faults - l.flash.faults)) l after) c.self.view_is (c.write_at.ensures.slots n)
+
+pub returns-clause-keeps_trying : goal.returns-clause-keeps_trying
+returns-clause-keeps_trying g c = λ n far.
+    let slots = g.F.Flash.SLOTS in
+    let pages = g.F.Flash.PAGES in
+    let old = g.F.Flash.state c.self.inside.flash in
+    let new = g.F.Flash.state c.write_at.new.flash in
+    subst (λ (l : LogState). WillTake slots l n → Tries TRIES l.flash (state_of pages slots new) c.write_at.result)
+    c.self.view_is
+    (λ takes. tries_view pages slots TRIES old new c.write_at.result (c.write_at.ensures.keeps_trying n far takes))
 
 pub returns-clause-tries : goal.returns-clause-tries
 returns-clause-tries g c = λ n far.

@@ -1,0 +1,36 @@
+use Rattle.std.proofs.Common.{◌≡◌, ◌⊎◌, ◌≤◌, ◌+◌, ◌-◌, ◌*◌, ℕ, false}
+use Rattle.nvm_board.specs.History.{written}
+use Rattle.flash_device.specs.FlashCalls.{KeepsPower}
+use Rattle.flash_device.specs.FlashLogs.{words_of}
+use Rattle.flash_log.specs.Paces.{WillKeepPace, extra_of, lead_of}
+use Rattle.flash_log.specs.Places.{IsLog, log_value}
+use Rattle.flash_log.specs.SlotsInTurn.{TakesInTurn, WillTake}
+use Rattle.flash_log.proofs.tries.try_again.Given as goal
+
+abbrev pub invariant-loop : goal.invariant-loop
+invariant-loop g l =
+    let slots = g.F.Flash.SLOTS in
+    let pages = g.F.Flash.PAGES in
+    let sectors = g.F.Flash.SECTORS in
+    let start = g.F.Flash.sector_start in
+    let old = g.F.Flash.state l.initial.flash in
+    let new = g.F.Flash.state l.flash in record {
+      lit : new.dark ≡ false;
+      steady : KeepsPower old new;
+      most : new.faults + 1 ≤ old.faults + l.counter;
+      operations : new.operations + 2 * old.faults ≤ old.operations + 2 * new.faults;
+      erases : new.erases ≡ old.erases;
+      stood : (extra : ℕ) → extra ≤ extra_of pages slots sectors
+          → WillKeepPace pages slots sectors start old.words extra l.initial.place
+          → WillKeepPace pages slots sectors start new.words extra l.place;
+      turns : (n : ℕ) → n + lead_of pages sectors ≤ slots
+          → WillTake slots (log_value pages slots sectors old l.initial.place) n
+          → TakesInTurn slots n (l.counter - 1) (log_value pages slots sectors old l.initial.place)
+          (log_value pages slots sectors new l.place);
+      met : (n : ℕ) → n + lead_of pages sectors ≤ slots
+          → WillTake slots (log_value pages slots sectors old l.initial.place) n
+          → old.faults + l.counter ≤ new.faults + 1;
+      log : IsLog g.F.Table.PageTable.entries pages slots sectors start new.words l.place;
+      whole : (words_of pages slots new.words ≡ words_of pages slots old.words) ⊎ (words_of pages slots new.words
+          ≡ written (words_of pages slots old.words) (16 * l.page + l.first) l.words);
+    }

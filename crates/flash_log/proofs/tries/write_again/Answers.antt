@@ -1,0 +1,266 @@
+use Rattle.std.proofs.Common.{◌≡◌, ◌⊎◌, ◌<◌, ◌≤◌, ◌+◌, ◌*◌, ℕ, List, refl, ap, subst, inl, ◌∙◌, arith}
+use Rattle.std.proofs.lemmas.Result.{on_ok_weaker}
+use Rattle.nvm_board.specs.History.{written}
+use Rattle.flash_device.specs.FlashCalls.{Tries}
+use Rattle.flash_device.specs.FlashLogs.{base_in, turn_of, words_of}
+use Rattle.flash_device.specs.PageTables.{AreFree}
+use Rattle.flash_log.specs.Paces.{HasStepped, KeepsPace, OwnsOlder, WillKeepPace, extra_of, move_steps_of, steps_left}
+use Rattle.flash_log.specs.Places.{IsPlaceOf, log_value}
+use Rattle.flash_log.specs.SlotsInTurn.{TakesInTurn, WillTake}
+use Rattle.flash_log.specs.laws.Lighting.{lights_faults, lights_once}
+use Rattle.flash_log.specs.laws.Pacing.{steps_most}
+use Rattle.flash_log.specs.laws.Retrying.{lights_tries, tries_behind}
+use Rattle.flash_log.specs.laws.TakingTurns.{finds_again, finds_own, finds_takes, finds_then, lost_next, was_lost}
+use Rattle.flash_log.proofs.tries.write_again.Given.{Over}
+use Rattle.flash_log.proofs.tries.write_again.Goals.{After-keep_own, After-put_next}
+use Rattle.flash_log.proofs.tries.write_again.Goals as goal
+
+-- The place is the flash's, however the move began anew.
+own_place : (g : Over) (c : After-keep_own g)
+    → IsPlaceOf g.F.Table.PageTable.entries g.F.Flash.PAGES g.F.Flash.SLOTS g.F.Flash.SECTORS g.F.Flash.sector_start
+    (g.F.Flash.state c.find_pages.new.flash).words c.keep_own.new.place
+own_place g c =
+    let m = (g.F.Flash.state c.find_pages.new.flash).words in
+    (c.keep_own.ensures.log m c.find_pages.ensures.log).known
+    (c.keep_own.ensures.same.0 ∙ c.in_ok-find_pages.ensures.ready)
+
+-- With the slots of a whole move, its next slot is that of the try, and it is in pace.
+own_next : (g : Over) (c : After-keep_own g) (n : ℕ)
+    → n + move_steps_of g.F.Flash.PAGES g.F.Flash.SECTORS < g.F.Flash.SLOTS
+    → WillTake g.F.Flash.SLOTS (log_value g.F.Flash.PAGES g.F.Flash.SLOTS g.F.Flash.SECTORS
+    (g.F.Flash.state c.args.flash.now) c.args.place.now) n
+    → (c.keep_own.new.place.next ≡ n) × KeepsPace g.F.Flash.PAGES g.F.Flash.SLOTS g.F.Flash.SECTORS
+    c.find_pages.new.place.behind c.keep_own.new.place
+own_next g c = λ n far takes.
+    let slots = g.F.Flash.SLOTS in
+    let pages = g.F.Flash.PAGES in
+    let sectors = g.F.Flash.SECTORS in
+    let old = g.F.Flash.state c.args.flash.now in
+    let mid = g.F.Flash.state c.find_pages.new.flash in
+    let q = c.find_pages.new.place in
+    let there = c.in_ok-find_pages.ensures.ready in
+    let known = c.find_pages.ensures.log.known there in
+    let free : AreFree old.words (base_in slots (turn_of slots old.words)) q.next slots =
+    subst (λ (l : List ℕ). AreFree l (base_in slots (turn_of slots l)) q.next slots) c.find_pages.ensures.words
+    (subst (λ (t : ℕ). AreFree mid.words (base_in slots t) q.next slots) known.turn known.free) in
+    let found = finds_again pages slots sectors old c.args.place.now q n there free c.find_pages.ensures.known
+    c.find_pages.ensures.tried
+    (λ unready next. c.in_ok-find_pages.ensures.next unready n (omega (arith, far)) next)
+    c.in_ok-find_pages.ensures.begun far takes in
+    (c.keep_own.ensures.same.1 ∙ found.0, c.keep_own.ensures.paced q.behind found.1)
+
+-- The log is in pace, if it was or will be.
+own_pace : (g : Over) (c : After-keep_own g) (extra : ℕ)
+    → extra ≤ extra_of g.F.Flash.PAGES g.F.Flash.SLOTS g.F.Flash.SECTORS
+    → WillKeepPace g.F.Flash.PAGES g.F.Flash.SLOTS g.F.Flash.SECTORS g.F.Flash.sector_start
+    (g.F.Flash.state c.args.flash.now).words extra c.args.place.now
+    → KeepsPace g.F.Flash.PAGES g.F.Flash.SLOTS g.F.Flash.SECTORS extra c.keep_own.new.place
+own_pace g c = λ extra fits stands.
+    c.keep_own.ensures.paced extra (c.in_ok-find_pages.ensures.in_pace extra fits stands)
+
+-- There was a slot for the record.
+full_absurd : (g : Over) (c : After-keep_own g) (n : ℕ)
+    → n + move_steps_of g.F.Flash.PAGES g.F.Flash.SECTORS < g.F.Flash.SLOTS
+    → WillTake g.F.Flash.SLOTS (log_value g.F.Flash.PAGES g.F.Flash.SLOTS g.F.Flash.SECTORS
+    (g.F.Flash.state c.args.flash.now) c.args.place.now) n
+    → ¬ (OwnsOlder c.args.page c.keep_own.new.place
+    → g.F.Flash.SLOTS ≤ steps_left g.F.Flash.PAGES g.F.Flash.SECTORS c.keep_own.new.place
+    + c.keep_own.new.place.next)
+full_absurd g c = λ n far takes full.
+    let is = own_next g c n far takes in
+    let next = is.0 in
+    let same = c.keep_own.ensures.same.1 in
+    let most = steps_most g.F.Flash.PAGES g.F.Flash.SLOTS g.F.Flash.SECTORS c.keep_own.new.place in
+    let all = full (c.keep_own.ensures.own (omega (arith, next, same, far))) in
+    omega (arith, all, most, next, far)
+
+pub keep_own-requires-clause-within : goal.keep_own-requires-clause-within
+keep_own-requires-clause-within g c =
+    (c.find_pages.ensures.log.known c.in_ok-find_pages.ensures.ready).free.within
+
+pub has_slot-requires-clause-fits : goal.has_slot-requires-clause-fits
+has_slot-requires-clause-fits g c =
+    let known = own_place g (goal.at.has_slot-requires-clause-fits g c).After-keep_own in
+    (known.spare.within, known.spare.most, known.free.within)
+
+pub put_next-requires-clause-log : goal.put_next-requires-clause-log
+put_next-requires-clause-log g c =
+    c.keep_own.ensures.log (g.F.Flash.state c.find_pages.new.flash).words c.find_pages.ensures.log
+
+pub put_next-requires-clause-ready : goal.put_next-requires-clause-ready
+put_next-requires-clause-ready g c = c.keep_own.ensures.same.0 ∙ c.in_ok-find_pages.ensures.ready
+
+pub put_next-requires-clause-own : goal.put_next-requires-clause-own
+put_next-requires-clause-own g c = (c.has_slot.ensures.yes c.if-not-has_slot.false).0
+
+pub put_next-requires-clause-room : goal.put_next-requires-clause-room
+put_next-requires-clause-room g c = let room = (c.has_slot.ensures.yes c.if-not-has_slot.false).1 in omega (arith, room)
+
+pub returns-in_err-find_pages-clause-whole : goal.returns-in_err-find_pages-clause-whole
+returns-in_err-find_pages-clause-whole g c =
+    inl (ap (words_of g.F.Flash.PAGES g.F.Flash.SLOTS) c.find_pages.ensures.words)
+
+pub returns-in_err-find_pages-clause-once : goal.returns-in_err-find_pages-clause-once
+returns-in_err-find_pages-clause-once g c =
+    lights_once (g.F.Flash.state c.args.flash.now) (g.F.Flash.state c.find_pages.new.flash) c.find_pages.result
+    c.find_pages.ensures.light
+
+pub returns-in_err-find_pages-clause-failed : goal.returns-in_err-find_pages-clause-failed
+returns-in_err-find_pages-clause-failed g c = λ failed. record {
+  operations =
+      let more = lights_faults (g.F.Flash.state c.args.flash.now) (g.F.Flash.state c.find_pages.new.flash)
+      c.find_pages.result c.find_pages.ensures.light in
+      let work = c.find_pages.ensures.work in
+      omega (arith, more, work);
+}
+
+pub returns-in_err-find_pages-clause-slots : goal.returns-in_err-find_pages-clause-slots
+returns-in_err-find_pages-clause-slots g c = λ n far takes.
+    let slots = g.F.Flash.SLOTS in
+    let pages = g.F.Flash.PAGES in
+    let sectors = g.F.Flash.SECTORS in
+    let old = g.F.Flash.state c.args.flash.now in
+    let mid = g.F.Flash.state c.find_pages.new.flash in
+    let p = c.args.place.now in
+    let q = c.find_pages.new.place in
+    let lost = c.in_err-find_pages.ensures.unready in
+    finds_takes slots n _ _
+    (lost_next pages slots sectors old mid p q n (was_lost pages slots sectors p q lost c.find_pages.ensures.known) lost
+    c.find_pages.ensures.tried c.find_pages.ensures.words c.find_pages.ensures.work c.find_pages.ensures.erases
+    (lights_once old mid c.find_pages.result c.find_pages.ensures.light) takes)
+
+pub returns-then-not-has_slot-clause-whole : goal.returns-then-not-has_slot-clause-whole
+returns-then-not-has_slot-clause-whole g c =
+    inl (ap (words_of g.F.Flash.PAGES g.F.Flash.SLOTS) c.find_pages.ensures.words)
+
+pub returns-then-not-has_slot-clause-log : goal.returns-then-not-has_slot-clause-log
+returns-then-not-has_slot-clause-log g c =
+    c.keep_own.ensures.log (g.F.Flash.state c.find_pages.new.flash).words c.find_pages.ensures.log
+
+pub returns-then-not-has_slot-clause-once : goal.returns-then-not-has_slot-clause-once
+returns-then-not-has_slot-clause-once g c =
+    lights_once (g.F.Flash.state c.args.flash.now) (g.F.Flash.state c.find_pages.new.flash) c.find_pages.result
+    c.find_pages.ensures.light
+
+pub returns-then-not-has_slot-clause-failed : goal.returns-then-not-has_slot-clause-failed
+returns-then-not-has_slot-clause-failed g c = λ failed. record {
+  operations =
+      let more = lights_faults (g.F.Flash.state c.args.flash.now) (g.F.Flash.state c.find_pages.new.flash)
+      c.find_pages.result c.find_pages.ensures.light in
+      let work = c.find_pages.ensures.work in
+      omega (arith, more, work);
+}
+
+pub returns-then-not-has_slot-clause-tries : goal.returns-then-not-has_slot-clause-tries
+returns-then-not-has_slot-clause-tries g c = λ n far takes.
+    absurd (full_absurd g (goal.at.returns-then-not-has_slot-clause-tries g c).After-keep_own n far takes
+    (c.has_slot.ensures.no c.if-not-has_slot.true))
+
+pub returns-then-not-has_slot-clause-slots : goal.returns-then-not-has_slot-clause-slots
+returns-then-not-has_slot-clause-slots g c = λ n far takes.
+    absurd (full_absurd g (goal.at.returns-then-not-has_slot-clause-slots g c).After-keep_own n far takes
+    (c.has_slot.ensures.no c.if-not-has_slot.true))
+
+pub returns-then-not-has_slot-clause-stands : goal.returns-then-not-has_slot-clause-stands
+returns-then-not-has_slot-clause-stands g c = λ extra fits stands.
+    inl (own_pace g (goal.at.returns-then-not-has_slot-clause-stands g c).After-keep_own extra fits stands)
+
+pub returns-clause-whole : goal.returns-clause-whole
+returns-clause-whole g c =
+    let slots = g.F.Flash.SLOTS in
+    let pages = g.F.Flash.PAGES in
+    let after = (g.F.Flash.state c.put_next.new.flash).words in
+    let at = 16 * c.args.page + c.args.first in
+    subst (λ (l : List ℕ). (words_of pages slots after ≡ words_of pages slots l) ⊎ (words_of pages slots after
+    ≡ written (words_of pages slots l) at c.args.words.now)) c.find_pages.ensures.words c.put_next.ensures.whole
+
+pub returns-clause-done : goal.returns-clause-done
+returns-clause-done g c =
+    let slots = g.F.Flash.SLOTS in
+    let pages = g.F.Flash.PAGES in
+    let mid = words_of pages slots (g.F.Flash.state c.find_pages.new.flash).words in
+    let after = words_of pages slots (g.F.Flash.state c.put_next.new.flash).words in
+    let at = 16 * c.args.page + c.args.first in
+    on_ok_weaker c.put_next.result
+    (λ (done : after ≡ written mid at c.args.words.now).
+    done ∙ ap (λ (l : List ℕ). written (words_of pages slots l) at c.args.words.now) c.find_pages.ensures.words)
+    c.put_next.ensures.done
+
+-- the record is one try
+put_tries : (g : Over) (c : After-put_next g)
+    → Tries 1 (g.F.Flash.state c.args.flash.now) (g.F.Flash.state c.put_next.new.flash) c.put_next.result
+put_tries g c =
+    let mid = g.F.Flash.state c.find_pages.new.flash in
+    let new = g.F.Flash.state c.put_next.new.flash in
+    let is = c.in_ok-find_pages.ensures.light.ok refl in
+    let same = is.faults in
+    tries_behind 0 1 1 (g.F.Flash.state c.args.flash.now) mid new c.put_next.result
+    (record { lit = is.lit; due = is.due; faults = omega (arith, same) }) (omega (arith, same)) (omega arith)
+    (lights_tries mid new c.put_next.result c.put_next.ensures.light)
+
+pub returns-clause-light : goal.returns-clause-light
+returns-clause-light g c =
+    let old = g.F.Flash.state c.args.flash.now in
+    tries_behind 0 1 0 old old (g.F.Flash.state c.put_next.new.flash) c.put_next.result
+    (record { lit = c.requires.lit; due = refl; faults = omega arith }) (omega arith) (omega arith)
+    (put_tries g (goal.at.returns-clause-light g c).After-put_next)
+
+pub returns-clause-tries : goal.returns-clause-tries
+returns-clause-tries g c = λ n far takes. put_tries g (goal.at.returns-clause-tries g c).After-put_next
+
+pub returns-clause-once : goal.returns-clause-once
+returns-clause-once g c =
+    let same = (c.in_ok-find_pages.ensures.light.ok refl).faults in
+    let once = lights_once (g.F.Flash.state c.find_pages.new.flash) (g.F.Flash.state c.put_next.new.flash)
+    c.put_next.result c.put_next.ensures.light in
+    omega (arith, same, once)
+
+pub returns-clause-failed : goal.returns-clause-failed
+returns-clause-failed g c = λ failed. record {
+  operations =
+      let same = (c.in_ok-find_pages.ensures.light.ok refl).faults in
+      let more = (c.put_next.ensures.light.fault failed).faults in
+      let first = c.find_pages.ensures.work in
+      let work = c.put_next.ensures.work in
+      omega (arith, same, more, first, work);
+}
+
+-- It has a slot beside those of the steps.
+own_stepped : (g : Over) (c : After-put_next g) (extra : ℕ)
+    → KeepsPace g.F.Flash.PAGES g.F.Flash.SLOTS g.F.Flash.SECTORS extra c.keep_own.new.place
+    → HasStepped g.F.Flash.PAGES g.F.Flash.SLOTS g.F.Flash.SECTORS extra c.keep_own.new.place
+own_stepped g c = λ extra pace. record {
+  ready = pace.ready;
+  room = (c.has_slot.ensures.yes c.if-not-has_slot.false).1;
+  few = pace.few;
+  goes_on = pace.goes_on;
+  passed = pace.passed;
+}
+
+pub returns-clause-slots : goal.returns-clause-slots
+returns-clause-slots g c = λ n far takes.
+    let slots = g.F.Flash.SLOTS in
+    let pages = g.F.Flash.PAGES in
+    let sectors = g.F.Flash.SECTORS in
+    let old = g.F.Flash.state c.args.flash.now in
+    let mid = g.F.Flash.state c.find_pages.new.flash in
+    let new = g.F.Flash.state c.put_next.new.flash in
+    let p = c.args.place.now in
+    let q = c.keep_own.new.place in
+    let extra = c.find_pages.new.place.behind in
+    let run = (goal.at.returns-clause-slots g c).After-put_next in
+    let is = own_next g (goal.at.returns-clause-slots g c).After-keep_own n far takes in
+    let known = own_place g (goal.at.returns-clause-slots g c).After-keep_own in
+    finds_then slots n 1 (log_value pages slots sectors old p) (log_value pages slots sectors mid q)
+    (log_value pages slots sectors new c.put_next.new.place)
+    (finds_own pages slots sectors old mid p q n extra c.find_pages.ensures.words c.find_pages.ensures.work
+    c.find_pages.ensures.erases (c.in_ok-find_pages.ensures.light.ok refl).faults is.0 is.1
+    (subst (λ (t : ℕ). AreFree mid.words (base_in slots t) q.next slots) known.turn known.free))
+    (subst (λ (k : ℕ). TakesInTurn slots k 1 (log_value pages slots sectors mid q)
+    (log_value pages slots sectors new c.put_next.new.place)) is.0
+    (c.put_next.ensures.slots extra (own_stepped g run extra is.1)))
+
+pub returns-clause-stands : goal.returns-clause-stands
+returns-clause-stands g c = λ extra fits stands. c.put_next.ensures.stands extra
+    (own_stepped g (goal.at.returns-clause-stands g c).After-put_next extra
+    (own_pace g (goal.at.returns-clause-stands g c).After-keep_own extra fits stands))

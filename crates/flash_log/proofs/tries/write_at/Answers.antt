@@ -1,0 +1,246 @@
+use Rattle.std.proofs.Common.{◌≡◌, ◌≤◌, ◌+◌, ◌-◌, ◌*◌, ℕ, length, Err, ap, arith, true≢false}
+use Rattle.std.proofs.Common.{sym}
+use Rattle.std.proofs.lemmas.Result.{on_ok_weaker}
+use Rattle.flash_device.specs.FlashCalls.{KeepsPower}
+use Rattle.flash_device.specs.FlashLogs.{words_of}
+use Rattle.flash_area.specs.laws.Words.{length-words}
+use Rattle.flash_log.specs.Paces.{IsRoomy, WillKeepPace, failed_since, lost_since}
+use Rattle.flash_log.specs.Places.{log_value}
+use Rattle.flash_log.specs.laws.Ending.{will_more}
+use Rattle.flash_log.specs.laws.Lighting.{tries_faults}
+use Rattle.flash_log.specs.laws.Pacing.{found_so}
+use Rattle.flash_log.specs.laws.Retrying.{holds_ok, ok_holds, tries_behind}
+use Rattle.flash_log.specs.laws.TakingTurns.{takes_more, takes_then}
+use Rattle.flash_log.specs.laws.Writing.{done_again, whole_again}
+use Rattle.flash_log.proofs.tries.write_at.Given.{Over}
+use Rattle.flash_log.proofs.tries.write_at.Goals.{After-try_again}
+use Rattle.flash_log.proofs.tries.write_at.Goals as goal
+
+pub returns-in-Ok-clause-keeps_trying : goal.returns-in-Ok-clause-keeps_trying
+returns-in-Ok-clause-keeps_trying g c = λ n far takes. record {
+  ok = c.in-Ok.ensures.light.ok;
+  lost = c.in-Ok.ensures.light.lost;
+  fault = λ e. absurd cc;
+}
+
+pub returns-in-Ok-clause-slots : goal.returns-in-Ok-clause-slots
+returns-in-Ok-clause-slots g c = λ n far takes.
+    takes_more g.F.Flash.SLOTS n 1 _ _ _ (omega arith) (c.in-Ok.ensures.slots n (omega (arith, far)) takes)
+
+pub returns-in-Ok-clause-tries : goal.returns-in-Ok-clause-tries
+returns-in-Ok-clause-tries g c = λ n far takes.
+    let once = c.in-Ok.ensures.once n (omega (arith, far)) takes in omega (arith, once)
+
+pub returns-in-Err-PowerLost-clause-keeps_trying : goal.returns-in-Err-PowerLost-clause-keeps_trying
+returns-in-Err-PowerLost-clause-keeps_trying g c = λ n far takes. record {
+  ok = λ e. absurd cc;
+  lost = λ e. c.in-Err-PowerLost.ensures.light.lost (ap Err c.in-Err-PowerLost.field-0-is);
+  fault = λ e. absurd cc;
+}
+
+pub returns-in-Err-PowerLost-clause-slots : goal.returns-in-Err-PowerLost-clause-slots
+returns-in-Err-PowerLost-clause-slots g c = λ n far takes.
+    takes_more g.F.Flash.SLOTS n 1 _ _ _ (omega arith) (c.in-Err-PowerLost.ensures.slots n (omega (arith, far)) takes)
+
+pub returns-in-Err-PowerLost-clause-tries : goal.returns-in-Err-PowerLost-clause-tries
+returns-in-Err-PowerLost-clause-tries g c = λ n far takes.
+    let once = c.in-Err-PowerLost.ensures.once n (omega (arith, far)) takes in omega (arith, once)
+
+pub returns-in-Err-PowerLost-clause-pause : goal.returns-in-Err-PowerLost-clause-pause
+returns-in-Err-PowerLost-clause-pause g c = λ extra roomy.
+    let pause = c.in-Err-PowerLost.ensures.pause extra roomy in
+    record {
+      short = pause.short;
+      stays = λ pace ok. absurd (true≢false (sym ok));
+      long = λ same ok. absurd (true≢false (sym ok));
+    }
+
+pub returns-in-Err-PowerLost-clause-calm : goal.returns-in-Err-PowerLost-clause-calm
+returns-in-Err-PowerLost-clause-calm g c = λ far same.
+    let calm = c.in-Err-PowerLost.ensures.calm far same in
+    record {
+      operations = calm.operations;
+      fewer = calm.fewer;
+      erases = calm.erases;
+      slots = λ ok. absurd (true≢false (sym ok));
+    }
+
+-- The first try failed.
+first_failed : (g : Over) (c : After-try_again g)
+    → KeepsPower (g.F.Flash.state c.args.flash.now) (g.F.Flash.state c.write_once.new.flash)
+    × ((g.F.Flash.state c.args.flash.now).faults + 1 ≤ (g.F.Flash.state c.write_once.new.flash).faults)
+first_failed g c = c.in-Err-Fault.ensures.light.fault (ap Err c.in-Err-Fault.field-0-is)
+
+-- So a write met a Fault.
+met_fault : (g : Over) (c : After-try_again g)
+    → (g.F.Flash.state c.args.flash.now).faults + 1 ≤ (g.F.Flash.state c.try_again.new.flash).faults
+met_fault g c =
+    let first = (first_failed g c).1 in
+    let more = tries_faults 0 (g.F.Flash.state c.write_once.new.flash) (g.F.Flash.state c.try_again.new.flash)
+    c.try_again.result c.try_again.ensures.light in
+    omega (arith, first, more)
+
+pub returns-clause-whole : goal.returns-clause-whole
+returns-clause-whole g c =
+    let slots = g.F.Flash.SLOTS in
+    let pages = g.F.Flash.PAGES in
+    let m = words_of pages slots (g.F.Flash.state c.args.flash.now).words in
+    let mid = words_of pages slots (g.F.Flash.state c.write_once.new.flash).words in
+    let after = words_of pages slots (g.F.Flash.state c.try_again.new.flash).words in
+    let at = 16 * c.args.page + c.args.first in
+    let all : length m ≡ 16 * pages = length-words pages slots (g.F.Flash.state c.args.flash.now).words in
+    let fits : at + length c.args.words.now ≤ length m = omega (arith, all, c.requires.page, c.requires.run) in
+    whole_again m mid after c.args.words.now at fits c.write_once.ensures.whole c.try_again.ensures.whole
+
+pub returns-clause-done : goal.returns-clause-done
+returns-clause-done g c =
+    let slots = g.F.Flash.SLOTS in
+    let pages = g.F.Flash.PAGES in
+    let m = words_of pages slots (g.F.Flash.state c.args.flash.now).words in
+    let mid = words_of pages slots (g.F.Flash.state c.write_once.new.flash).words in
+    let after = words_of pages slots (g.F.Flash.state c.try_again.new.flash).words in
+    let at = 16 * c.args.page + c.args.first in
+    let all : length m ≡ 16 * pages = length-words pages slots (g.F.Flash.state c.args.flash.now).words in
+    let fits : at + length c.args.words.now ≤ length m = omega (arith, all, c.requires.page, c.requires.run) in
+    on_ok_weaker c.try_again.result (done_again m mid after c.args.words.now at fits c.write_once.ensures.whole)
+    c.try_again.ensures.done
+
+pub returns-clause-light : goal.returns-clause-light
+returns-clause-light g c =
+    let first = first_failed g (goal.at.returns-clause-light g c).After-try_again in
+    tries_behind 1 0 1 (g.F.Flash.state c.args.flash.now) (g.F.Flash.state c.write_once.new.flash)
+    (g.F.Flash.state c.try_again.new.flash) c.try_again.result first.0 first.1 (omega arith) c.try_again.ensures.light
+
+pub returns-clause-keeps_trying : goal.returns-clause-keeps_trying
+returns-clause-keeps_trying g c = λ n far takes.
+    let run = (goal.at.returns-clause-keeps_trying g c).After-try_again in
+    let first = first_failed g run in
+    let all = tries_behind 1 0 1 (g.F.Flash.state c.args.flash.now) (g.F.Flash.state c.write_once.new.flash)
+    (g.F.Flash.state c.try_again.new.flash) c.try_again.result first.0 first.1 (omega arith)
+    c.try_again.ensures.light in
+    let slot = c.in-Err-Fault.ensures.slots n far takes in
+    let few = slot.few in
+    record {
+      ok = all.ok;
+      lost = all.lost;
+      fault = λ failed. (
+        (all.fault failed).0,
+        let met = first.1 in
+            let rest = c.try_again.ensures.tries slot.next (omega (arith, few, far)) slot.takes failed in
+            omega (arith, met, rest),
+      );
+    }
+
+pub returns-clause-work : goal.returns-clause-work
+returns-clause-work g c = record {
+  operations =
+      let first = (c.in-Err-Fault.ensures.again (ap Err c.in-Err-Fault.field-0-is)).operations in
+      let rest = c.try_again.ensures.work.operations in
+      omega (arith, first, rest);
+}
+
+-- the log stands in pace behind the first try
+first_stands : (g : Over) (c : After-try_again g) (extra : ℕ)
+    → IsRoomy g.F.Flash.PAGES g.F.Flash.SLOTS g.F.Flash.SECTORS
+    (extra + failed_since (g.F.Flash.state c.args.flash.now) (g.F.Flash.state c.try_again.new.flash))
+    → WillKeepPace g.F.Flash.PAGES g.F.Flash.SLOTS g.F.Flash.SECTORS g.F.Flash.sector_start
+    (g.F.Flash.state c.args.flash.now).words extra c.args.place.now
+    → WillKeepPace g.F.Flash.PAGES g.F.Flash.SLOTS g.F.Flash.SECTORS g.F.Flash.sector_start
+    (g.F.Flash.state c.try_again.new.flash).words
+    (extra + failed_since (g.F.Flash.state c.args.flash.now) (g.F.Flash.state c.write_once.new.flash))
+    c.try_again.new.place
+first_stands g c = λ extra roomy stands.
+    let slots = g.F.Flash.SLOTS in
+    let pages = g.F.Flash.PAGES in
+    let sectors = g.F.Flash.SECTORS in
+    let start = g.F.Flash.sector_start in
+    let old = g.F.Flash.state c.args.flash.now in
+    let mid = g.F.Flash.state c.write_once.new.flash in
+    let new = g.F.Flash.state c.try_again.new.flash in
+    let due = (first_failed g c).0.due in
+    let more = tries_faults 0 mid new c.try_again.result c.try_again.ensures.light in
+    c.try_again.ensures.stands (extra + failed_since old mid) (omega (arith, roomy, more))
+    (will_more pages slots sectors start mid.words (extra + lost_since old mid) (extra + failed_since old mid)
+    c.write_once.new.place (omega (arith, due))
+    (c.write_once.ensures.stands extra (omega (arith, roomy, more)) stands))
+
+pub returns-clause-pause : goal.returns-clause-pause
+returns-clause-pause g c = λ extra roomy.
+    let slots = g.F.Flash.SLOTS in
+    let pages = g.F.Flash.PAGES in
+    let sectors = g.F.Flash.SECTORS in
+    let start = g.F.Flash.sector_start in
+    let old = g.F.Flash.state c.args.flash.now in
+    let mid = g.F.Flash.state c.write_once.new.flash in
+    let new = g.F.Flash.state c.try_again.new.flash in
+    let last = c.try_again.new.place in
+    let run = (goal.at.returns-clause-pause g c).After-try_again in
+    let more = tries_faults 0 mid new c.try_again.result c.try_again.ensures.light in
+    let met = met_fault g run in
+    record {
+      short = λ pace.
+          let first = c.in-Err-Fault.ensures.brief (ap Err c.in-Err-Fault.field-0-is) extra (omega (arith, roomy, more))
+          pace in
+          let begun = first.work.operations in
+          let erased = first.erases in
+          let rest = c.try_again.ensures.work.operations in
+          let erases = c.try_again.ensures.erases in
+          record { work = record { operations = omega (arith, begun, rest) }; erases = omega (arith, erased, erases) };
+      stays = λ pace ok. found_so pages slots sectors start new.words (extra + failed_since old new) last _
+          (holds_ok c.try_again.result c.try_again.ensures.ready ok)
+          (will_more pages slots sectors start new.words (extra + failed_since old mid) (extra + failed_since old new)
+          last (omega (arith, more)) (first_stands g run extra roomy pace));
+      long = λ same ok. absurd (omega (arith, met, same));
+    }
+
+pub returns-clause-stands : goal.returns-clause-stands
+returns-clause-stands g c = λ extra roomy pace.
+    let old = g.F.Flash.state c.args.flash.now in
+    let mid = g.F.Flash.state c.write_once.new.flash in
+    let new = g.F.Flash.state c.try_again.new.flash in
+    let more = tries_faults 0 mid new c.try_again.result c.try_again.ensures.light in
+    will_more g.F.Flash.PAGES g.F.Flash.SLOTS g.F.Flash.SECTORS g.F.Flash.sector_start new.words
+    (extra + failed_since old mid) (extra + lost_since old new) c.try_again.new.place (omega (arith, more))
+    (first_stands g (goal.at.returns-clause-stands g c).After-try_again extra roomy pace)
+
+pub returns-clause-calm : goal.returns-clause-calm
+returns-clause-calm g c = λ far same.
+    let met = met_fault g (goal.at.returns-clause-calm g c).After-try_again in absurd (omega (arith, met, same))
+
+pub returns-clause-regains : goal.returns-clause-regains
+returns-clause-regains g c =
+    let met = met_fault g (goal.at.returns-clause-regains g c).After-try_again in
+    ok_holds c.try_again.result (λ ok extra roomy same. absurd (omega (arith, met, same)))
+
+pub returns-clause-regains_found : goal.returns-clause-regains_found
+returns-clause-regains_found g c =
+    let met = met_fault g (goal.at.returns-clause-regains_found g c).After-try_again in
+    ok_holds c.try_again.result (λ ok extra roomy same. absurd (omega (arith, met, same)))
+
+pub returns-clause-lost : goal.returns-clause-lost
+returns-clause-lost g c = λ extra roomy same.
+    let met = met_fault g (goal.at.returns-clause-lost g c).After-try_again in absurd (omega (arith, met, same))
+
+pub returns-clause-slots : goal.returns-clause-slots
+returns-clause-slots g c = λ n far takes.
+    let slots = g.F.Flash.SLOTS in
+    let pages = g.F.Flash.PAGES in
+    let sectors = g.F.Flash.SECTORS in
+    let old = g.F.Flash.state c.args.flash.now in
+    let mid = g.F.Flash.state c.write_once.new.flash in
+    let new = g.F.Flash.state c.try_again.new.flash in
+    let run = (goal.at.returns-clause-slots g c).After-try_again in
+    let first = (first_failed g run).1 in
+    let more = tries_faults 0 mid new c.try_again.result c.try_again.ensures.light in
+    let slot = c.in-Err-Fault.ensures.slots n (omega (arith, far)) takes in
+    let few = slot.few in
+    takes_then slots n 1 (1 + (new.faults - mid.faults)) _ (log_value pages slots sectors old c.args.place.now)
+    (log_value pages slots sectors mid c.write_once.new.place)
+    (log_value pages slots sectors new c.try_again.new.place)
+    (omega (arith, first, more)) slot (c.try_again.ensures.slots slot.next (omega (arith, few, far)) slot.takes)
+
+pub returns-clause-tries : goal.returns-clause-tries
+returns-clause-tries g c = λ n far takes.
+    let once = c.in-Err-Fault.ensures.once n (omega (arith, far)) takes in
+    let most = c.try_again.ensures.most in
+    omega (arith, once, most)

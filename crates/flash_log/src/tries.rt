@@ -1,0 +1,381 @@
+//! A write and its tries: it takes a step of the move at most once, and each try of its record takes the next slot.
+ghost use Rattle.std.specs.Prelude.{◌≡◌, ◌⊎◌, ◌<◌, ◌≤◌, ◌+◌, ◌-◌, ◌*◌, ℕ, true, false, List, length};
+ghost use Rattle.std.specs.Prelude.{IsErrOf, OnErr, OnOk};
+ghost use Rattle.nvm_board.specs.History.{written};
+ghost use Rattle.nvm_board.specs.declared.board.DeviceErr.TheVariants as DeviceErr;
+ghost use Rattle.flash_device.specs.FlashBlocks.{steps_of};
+ghost use Rattle.flash_device.specs.FlashCalls.{Costs, Lights, Tries};
+ghost use Rattle.flash_device.specs.FlashLogs.{base_in, find, turn_of, words_of};
+ghost use Rattle.flash_log.specs.Paces.{CopiesNoPageAt, HasStepped, IsBrief, IsInPace, IsRoomy, KeepsPace, OwnsOlder};
+ghost use Rattle.flash_log.specs.Paces.{Pauses, RegainsSlots, TakesSlot, WillKeepPace, extra_of, extra_slots};
+ghost use Rattle.flash_log.specs.Paces.{failed_since, free_slots, lead_of, lost_since, move_steps_of};
+ghost use Rattle.flash_log.specs.Paces.{steps_left as steps_left_of};
+ghost use Rattle.flash_log.specs.Places.{FindsFree, IsLog, log_value};
+ghost use Rattle.flash_log.specs.SlotsInTurn.{TakesInTurn, WillTake};
+ghost use Rattle.flash_log.specs.declared.ahead.TheConstants.{TRIES};
+
+use crate::ahead::{TRIES, move_steps};
+use crate::place::PageMap;
+use crate::steps::{find_pages, prepare};
+use crate::writing::write_run;
+use flash_area::{home, older_page};
+use flash_device::{Flash, copy_steps};
+use nvm_board::DeviceErr;
+
+/// The steps that are left of a move.
+fn steps_left<F: Flash>(place: &PageMap<F::Table>) -> u16
+    requires fits { (place.now.erased ≤ F.SECTORS) × (place.now.copied < steps_of F.PAGES) }
+    ensures { result ≡ steps_left_of F.PAGES F.SECTORS place.now }
+{
+    let first = if place.turn == 1 { 1 } else { 0 };
+    first + (F::SECTORS - place.erased) + (copy_steps::<F>() - place.copied)
+}
+
+/// Returns true if a record of a page may take the next slot: it's free beside those of the steps that are left, and
+/// no copy of another page may be older.
+fn has_slot<F: Flash>(place: &PageMap<F::Table>, page: u16) -> bool
+    requires fits { (place.now.erased ≤ F.SECTORS) × (place.now.copied < steps_of F.PAGES)
+        × (place.now.next ≤ F.SLOTS) }
+    requires page { page < F.PAGES }
+    ensures yes { result ≡ true → OwnsOlder page place.now
+        × (steps_left_of F.PAGES F.SECTORS place.now + place.now.next < F.SLOTS) }
+    ensures no { result ≡ false → OwnsOlder page place.now
+        → F.SLOTS ≤ steps_left_of F.PAGES F.SECTORS place.now + place.now.next }
+{
+    (place.older == 0 || place.older == page + 1) && steps_left::<F>(place) < F::SLOTS - place.next
+}
+
+/// If a copy of another page may be older, begins the move anew, as long as there are slots for that. A record makes
+/// its own page older, and there is room for one.
+fn keep_own<F: Flash>(place: &mut PageMap<F::Table>, page: u16)
+    requires within { place.old.next ≤ F.SLOTS }
+    requires page { page < F.PAGES }
+    ensures log { (m : List ℕ) → IsLog F.Table.entries F.PAGES F.SLOTS F.SECTORS F.sector_start m place.old
+        → IsLog F.Table.entries F.PAGES F.SLOTS F.SECTORS F.sector_start m place.new }
+    ensures same { (place.new.ready ≡ place.old.ready) × (place.new.next ≡ place.old.next)
+        × (place.new.tried ≡ place.old.tried) }
+    ensures own { place.old.next + move_steps_of F.PAGES F.SECTORS < F.SLOTS → OwnsOlder page place.new }
+    ensures paced { (extra : ℕ) → KeepsPace F.PAGES F.SLOTS F.SECTORS extra place.old
+        → KeepsPace F.PAGES F.SLOTS F.SECTORS extra place.new }
+{
+    if place.older == 0 || place.older == page + 1 {
+        return;
+    }
+    if F::SLOTS - place.next <= move_steps::<F>() {
+        return;
+    }
+    place.erased = 0;
+    place.copied = 0;
+    place.behind = 0;
+    place.older = 0;
+}
+
+/// Puts a record of a page into the next slot. At every exit all words of the run are old, or all are new. If that
+/// fails, the slot is passed over: it may hold anything, even the whole record.
+fn put_next<F: Flash>(
+    flash: &mut F,
+    place: &mut PageMap<F::Table>,
+    page: u16,
+    first: u8,
+    words: &[u32],
+) -> Result<(), DeviceErr>
+    requires lit { (F.state flash.old).dark ≡ false }
+    requires log { IsLog F.Table.entries F.PAGES F.SLOTS F.SECTORS F.sector_start (F.state flash.old).words place.old }
+    requires ready { place.old.ready ≡ true }
+    requires own { OwnsOlder page place.old }
+    requires room { place.old.next < F.SLOTS }
+    requires page { page < F.PAGES }
+    requires run { first + length words.now ≤ 16 }
+    ensures whole { (words_of F.PAGES F.SLOTS (F.state flash.new).words
+        ≡ words_of F.PAGES F.SLOTS (F.state flash.old).words)
+        ⊎ (words_of F.PAGES F.SLOTS (F.state flash.new).words
+        ≡ written (words_of F.PAGES F.SLOTS (F.state flash.old).words) (16 * page + first) words.now) }
+    ensures done { OnOk result (words_of F.PAGES F.SLOTS (F.state flash.new).words
+        ≡ written (words_of F.PAGES F.SLOTS (F.state flash.old).words) (16 * page + first) words.now) }
+    ensures log { IsLog F.Table.entries F.PAGES F.SLOTS F.SECTORS F.sector_start (F.state flash.new).words place.new }
+    ensures light { Lights (F.state flash.old) (F.state flash.new) result }
+    ensures work { (F.state flash.new).operations ≤ (F.state flash.old).operations + 2 }
+    ensures erases { (F.state flash.new).erases ≡ (F.state flash.old).erases }
+    ensures ready { OnOk result (place.new.ready ≡ true) }
+    ensures unready { OnErr result (place.new.ready ≡ false) }
+    ensures next { OnOk result (place.new.next ≡ place.old.next + 1) }
+    ensures behind { place.new.behind ≡ place.old.behind }
+    ensures copied { place.new.copied ≡ place.old.copied }
+    ensures stands { (extra : ℕ) → HasStepped F.PAGES F.SLOTS F.SECTORS extra place.old
+        → WillKeepPace F.PAGES F.SLOTS F.SECTORS F.sector_start (F.state flash.new).words extra place.new }
+    ensures in_pace { (extra : ℕ) → HasStepped F.PAGES F.SLOTS F.SECTORS extra place.old
+        → IsInPace F.PAGES F.SLOTS F.SECTORS F.sector_start (F.state flash.new).words extra }
+    ensures slots { (extra : ℕ) → HasStepped F.PAGES F.SLOTS F.SECTORS extra place.old
+        → TakesInTurn F.SLOTS place.old.next 1
+        (log_value F.PAGES F.SLOTS F.SECTORS (F.state flash.old) place.old)
+        (log_value F.PAGES F.SLOTS F.SECTORS (F.state flash.new) place.new) }
+    ensures last { OnOk result (find (F.state flash.new).words
+        (base_in F.SLOTS (turn_of F.SLOTS (F.state flash.new).words)) F.SLOTS page
+        ≡ F.SLOTS - free_slots F.SLOTS place.new) }
+{
+    let older = older_page(page, place.copied);
+    place.ready = false;
+    place.tried = place.next + 1;
+    write_run(
+        flash,
+        home(place.turn),
+        &mut place.table,
+        place.next,
+        page,
+        first,
+        words,
+    )?;
+    place.next += 1;
+    place.older = older;
+    place.ready = true;
+    Ok(())
+}
+
+/// Takes a step of the move if one is due, and puts a record into the next slot. At every exit all words of the run are
+/// old, or all are new.
+fn write_once<F: Flash>(
+    flash: &mut F,
+    place: &mut PageMap<F::Table>,
+    page: u16,
+    first: u8,
+    words: &[u32],
+) -> Result<(), DeviceErr>
+    requires lit { (F.state flash.old).dark ≡ false }
+    requires log { IsLog F.Table.entries F.PAGES F.SLOTS F.SECTORS F.sector_start (F.state flash.old).words place.old }
+    requires page { page < F.PAGES }
+    requires run { first + length words.now ≤ 16 }
+    ensures whole { (words_of F.PAGES F.SLOTS (F.state flash.new).words
+        ≡ words_of F.PAGES F.SLOTS (F.state flash.old).words)
+        ⊎ (words_of F.PAGES F.SLOTS (F.state flash.new).words
+        ≡ written (words_of F.PAGES F.SLOTS (F.state flash.old).words) (16 * page + first) words.now) }
+    ensures done { OnOk result (words_of F.PAGES F.SLOTS (F.state flash.new).words
+        ≡ written (words_of F.PAGES F.SLOTS (F.state flash.old).words) (16 * page + first) words.now) }
+    ensures log { IsLog F.Table.entries F.PAGES F.SLOTS F.SECTORS F.sector_start (F.state flash.new).words place.new }
+    ensures light { Tries 1 (F.state flash.old) (F.state flash.new) result }
+    ensures work { Costs (2 * F.PAGES + 40 + F.SECTORS) 2 (F.state flash.old) (F.state flash.new) }
+    // The program of a record that failed leaves two for its next try.
+    ensures again { IsErrOf result DeviceErr.Fault → Costs (2 * F.PAGES + 38 + F.SECTORS) 2 (F.state flash.old)
+        (F.state flash.new) }
+    ensures brief { IsErrOf result DeviceErr.Fault → (extra : ℕ)
+        → IsRoomy F.PAGES F.SLOTS F.SECTORS (extra + failed_since (F.state flash.old) (F.state flash.new))
+        → WillKeepPace F.PAGES F.SLOTS F.SECTORS F.sector_start (F.state flash.old).words extra place.old
+        → IsBrief 35 2 (F.state flash.old) (F.state flash.new) }
+    ensures pause { (extra : ℕ)
+        → IsRoomy F.PAGES F.SLOTS F.SECTORS (extra + failed_since (F.state flash.old) (F.state flash.new))
+        → Pauses 37 2 (F.state flash.old) (F.state flash.new)
+        (WillKeepPace F.PAGES F.SLOTS F.SECTORS F.sector_start (F.state flash.old).words extra place.old)
+        (KeepsPace F.PAGES F.SLOTS F.SECTORS (extra + failed_since (F.state flash.old) (F.state flash.new)) place.new)
+        result }
+    ensures calm { lead_of F.PAGES F.SECTORS < free_slots F.SLOTS place.old
+        → (F.state flash.new).faults ≡ (F.state flash.old).faults
+        → TakesSlot (F.state flash.old) (F.state flash.new) (place.old.copied ≡ 0) (free_slots F.SLOTS place.old)
+        (free_slots F.SLOTS place.new) result }
+    ensures slots { (n : ℕ) → n + lead_of F.PAGES F.SECTORS < F.SLOTS
+        → WillTake F.SLOTS (log_value F.PAGES F.SLOTS F.SECTORS (F.state flash.old) place.old) n
+        → TakesInTurn F.SLOTS n 1 (log_value F.PAGES F.SLOTS F.SECTORS (F.state flash.old) place.old)
+        (log_value F.PAGES F.SLOTS F.SECTORS (F.state flash.new) place.new) }
+    ensures once { (n : ℕ) → n + lead_of F.PAGES F.SECTORS < F.SLOTS
+        → WillTake F.SLOTS (log_value F.PAGES F.SLOTS F.SECTORS (F.state flash.old) place.old) n
+        → (F.state flash.new).faults ≤ (F.state flash.old).faults + 1 }
+    ensures last { OnOk result (find (F.state flash.new).words
+        (base_in F.SLOTS (turn_of F.SLOTS (F.state flash.new).words)) F.SLOTS page
+        ≡ F.SLOTS - free_slots F.SLOTS place.new) }
+    ensures regains { OnOk result ((extra : ℕ) → IsRoomy F.PAGES F.SLOTS F.SECTORS extra
+        → (F.state flash.new).faults ≡ (F.state flash.old).faults
+        → KeepsPace F.PAGES F.SLOTS F.SECTORS extra place.old
+        → RegainsSlots F.PAGES F.SLOTS extra (free_slots F.SLOTS place.old) (free_slots F.SLOTS place.new)
+        (extra_slots place.new)) }
+    ensures regains_found { OnOk result ((extra : ℕ) → IsRoomy F.PAGES F.SLOTS F.SECTORS extra
+        → (F.state flash.new).faults ≡ (F.state flash.old).faults
+        → WillKeepPace F.PAGES F.SLOTS F.SECTORS F.sector_start (F.state flash.old).words extra place.old
+        → (n : ℕ) → FindsFree F.SLOTS (F.state flash.old).words n
+        → RegainsSlots F.PAGES F.SLOTS extra n (free_slots F.SLOTS place.new) (extra_slots place.new)) }
+    ensures lost { (extra : ℕ) → IsRoomy F.PAGES F.SLOTS F.SECTORS extra
+        → (F.state flash.new).faults ≡ (F.state flash.old).faults
+        → WillKeepPace F.PAGES F.SLOTS F.SECTORS F.sector_start (F.state flash.old).words extra place.old
+        → CopiesNoPageAt F.PAGES F.SLOTS F.SECTORS (F.state flash.old) place.old (F.state flash.new)
+        → IsInPace F.PAGES F.SLOTS F.SECTORS F.sector_start (F.state flash.new).words extra }
+    ensures stands { (extra : ℕ)
+        → IsRoomy F.PAGES F.SLOTS F.SECTORS (extra + failed_since (F.state flash.old) (F.state flash.new))
+        → WillKeepPace F.PAGES F.SLOTS F.SECTORS F.sector_start (F.state flash.old).words extra place.old
+        → WillKeepPace F.PAGES F.SLOTS F.SECTORS F.sector_start (F.state flash.new).words
+        (extra + lost_since (F.state flash.old) (F.state flash.new)) place.new }
+{
+    prepare(flash, place)?;
+    put_next(flash, place, page, first, words)
+}
+
+/// Looks for the pages anew behind a Fault, and puts the record into the next slot, if one is free beside those of the
+/// steps that are left. It takes no step.
+fn write_again<F: Flash>(
+    flash: &mut F,
+    place: &mut PageMap<F::Table>,
+    page: u16,
+    first: u8,
+    words: &[u32],
+) -> Result<(), DeviceErr>
+    requires lit { (F.state flash.old).dark ≡ false }
+    requires log { IsLog F.Table.entries F.PAGES F.SLOTS F.SECTORS F.sector_start (F.state flash.old).words place.old }
+    requires page { page < F.PAGES }
+    requires run { first + length words.now ≤ 16 }
+    ensures whole { (words_of F.PAGES F.SLOTS (F.state flash.new).words
+        ≡ words_of F.PAGES F.SLOTS (F.state flash.old).words)
+        ⊎ (words_of F.PAGES F.SLOTS (F.state flash.new).words
+        ≡ written (words_of F.PAGES F.SLOTS (F.state flash.old).words) (16 * page + first) words.now) }
+    ensures done { OnOk result (words_of F.PAGES F.SLOTS (F.state flash.new).words
+        ≡ written (words_of F.PAGES F.SLOTS (F.state flash.old).words) (16 * page + first) words.now) }
+    ensures log { IsLog F.Table.entries F.PAGES F.SLOTS F.SECTORS F.sector_start (F.state flash.new).words place.new }
+    ensures ready { OnOk result (place.new.ready ≡ true) }
+    // Without a slot it is a Fault too.
+    ensures light { Tries 0 (F.state flash.old) (F.state flash.new) result }
+    ensures once { (F.state flash.new).faults ≤ (F.state flash.old).faults + 1 }
+    ensures tries { (n : ℕ) → n + move_steps_of F.PAGES F.SECTORS < F.SLOTS
+        → WillTake F.SLOTS (log_value F.PAGES F.SLOTS F.SECTORS (F.state flash.old) place.old) n
+        → Tries 1 (F.state flash.old) (F.state flash.new) result }
+    ensures work { (F.state flash.new).operations ≤ (F.state flash.old).operations + 2 }
+    ensures failed { IsErrOf result DeviceErr.Fault → Costs 0 2 (F.state flash.old) (F.state flash.new) }
+    ensures erases { (F.state flash.new).erases ≡ (F.state flash.old).erases }
+    ensures slots { (n : ℕ) → n + move_steps_of F.PAGES F.SECTORS < F.SLOTS
+        → WillTake F.SLOTS (log_value F.PAGES F.SLOTS F.SECTORS (F.state flash.old) place.old) n
+        → TakesInTurn F.SLOTS n 1 (log_value F.PAGES F.SLOTS F.SECTORS (F.state flash.old) place.old)
+        (log_value F.PAGES F.SLOTS F.SECTORS (F.state flash.new) place.new) }
+    ensures last { OnOk result (find (F.state flash.new).words
+        (base_in F.SLOTS (turn_of F.SLOTS (F.state flash.new).words)) F.SLOTS page
+        ≡ F.SLOTS - free_slots F.SLOTS place.new) }
+    ensures stands { (extra : ℕ) → extra ≤ extra_of F.PAGES F.SLOTS F.SECTORS
+        → WillKeepPace F.PAGES F.SLOTS F.SECTORS F.sector_start (F.state flash.old).words extra place.old
+        → WillKeepPace F.PAGES F.SLOTS F.SECTORS F.sector_start (F.state flash.new).words extra place.new }
+{
+    find_pages(flash, place)?;
+    keep_own::<F>(place, page);
+    if !has_slot::<F>(place, page) {
+        return Err(DeviceErr::Fault);
+    }
+    put_next(flash, place, page, first, words)
+}
+
+/// Tries the record again, behind a try that failed. A Fault is returned if no slot is free beside those of the steps
+/// that are left, or each try failed.
+fn try_again<F: Flash>(
+    flash: &mut F,
+    place: &mut PageMap<F::Table>,
+    page: u16,
+    first: u8,
+    words: &[u32],
+) -> Result<(), DeviceErr>
+    requires lit { (F.state flash.old).dark ≡ false }
+    requires log { IsLog F.Table.entries F.PAGES F.SLOTS F.SECTORS F.sector_start (F.state flash.old).words place.old }
+    requires page { page < F.PAGES }
+    requires run { first + length words.now ≤ 16 }
+    ensures whole { (words_of F.PAGES F.SLOTS (F.state flash.new).words
+        ≡ words_of F.PAGES F.SLOTS (F.state flash.old).words)
+        ⊎ (words_of F.PAGES F.SLOTS (F.state flash.new).words
+        ≡ written (words_of F.PAGES F.SLOTS (F.state flash.old).words) (16 * page + first) words.now) }
+    ensures done { OnOk result (words_of F.PAGES F.SLOTS (F.state flash.new).words
+        ≡ written (words_of F.PAGES F.SLOTS (F.state flash.old).words) (16 * page + first) words.now) }
+    ensures log { IsLog F.Table.entries F.PAGES F.SLOTS F.SECTORS F.sector_start (F.state flash.new).words place.new }
+    ensures ready { OnOk result (place.new.ready ≡ true) }
+    ensures light { Tries 0 (F.state flash.old) (F.state flash.new) result }
+    ensures most { (F.state flash.new).faults + 1 ≤ (F.state flash.old).faults + TRIES }
+    ensures tries { (n : ℕ) → n + lead_of F.PAGES F.SECTORS ≤ F.SLOTS
+        → WillTake F.SLOTS (log_value F.PAGES F.SLOTS F.SECTORS (F.state flash.old) place.old) n
+        → IsErrOf result DeviceErr.Fault → (F.state flash.old).faults + TRIES ≤ (F.state flash.new).faults + 1 }
+    ensures work { Costs 2 2 (F.state flash.old) (F.state flash.new) }
+    ensures erases { (F.state flash.new).erases ≡ (F.state flash.old).erases }
+    ensures slots { (n : ℕ) → n + lead_of F.PAGES F.SECTORS ≤ F.SLOTS
+        → WillTake F.SLOTS (log_value F.PAGES F.SLOTS F.SECTORS (F.state flash.old) place.old) n
+        → TakesInTurn F.SLOTS n (1 + ((F.state flash.new).faults - (F.state flash.old).faults))
+        (log_value F.PAGES F.SLOTS F.SECTORS (F.state flash.old) place.old)
+        (log_value F.PAGES F.SLOTS F.SECTORS (F.state flash.new) place.new) }
+    ensures last { OnOk result (find (F.state flash.new).words
+        (base_in F.SLOTS (turn_of F.SLOTS (F.state flash.new).words)) F.SLOTS page
+        ≡ F.SLOTS - free_slots F.SLOTS place.new) }
+    ensures stands { (extra : ℕ) → extra ≤ extra_of F.PAGES F.SLOTS F.SECTORS
+        → WillKeepPace F.PAGES F.SLOTS F.SECTORS F.sector_start (F.state flash.old).words extra place.old
+        → WillKeepPace F.PAGES F.SLOTS F.SECTORS F.sector_start (F.state flash.new).words extra place.new }
+{
+    for _ in 1..TRIES {
+        match write_again(flash, place, page, first, words) {
+            Ok(()) => return Ok(()),
+            Err(DeviceErr::PowerLost) => return Err(DeviceErr::PowerLost),
+            Err(DeviceErr::Fault) => {}
+        }
+    }
+    Err(DeviceErr::Fault)
+}
+
+/// Writes a run of a page. At every exit all words of the run are old, or all are new. If a step of a move is due it is
+/// taken once. The record is tried as long as a slot is free beside those of the steps, each time in the next one.
+pub fn write_at<F: Flash>(
+    flash: &mut F,
+    place: &mut PageMap<F::Table>,
+    page: u16,
+    first: u8,
+    words: &[u32],
+) -> Result<(), DeviceErr>
+    requires lit { (F.state flash.old).dark ≡ false }
+    requires log { IsLog F.Table.entries F.PAGES F.SLOTS F.SECTORS F.sector_start (F.state flash.old).words place.old }
+    requires page { page < F.PAGES }
+    requires run { first + length words.now ≤ 16 }
+    ensures whole { (words_of F.PAGES F.SLOTS (F.state flash.new).words
+        ≡ words_of F.PAGES F.SLOTS (F.state flash.old).words)
+        ⊎ (words_of F.PAGES F.SLOTS (F.state flash.new).words
+        ≡ written (words_of F.PAGES F.SLOTS (F.state flash.old).words) (16 * page + first) words.now) }
+    ensures done { OnOk result (words_of F.PAGES F.SLOTS (F.state flash.new).words
+        ≡ written (words_of F.PAGES F.SLOTS (F.state flash.old).words) (16 * page + first) words.now) }
+    ensures log { IsLog F.Table.entries F.PAGES F.SLOTS F.SECTORS F.sector_start (F.state flash.new).words place.new }
+    ensures light { Tries 1 (F.state flash.old) (F.state flash.new) result }
+    ensures keeps_trying { (n : ℕ) → n + lead_of F.PAGES F.SECTORS < F.SLOTS
+        → WillTake F.SLOTS (log_value F.PAGES F.SLOTS F.SECTORS (F.state flash.old) place.old) n
+        → Tries TRIES (F.state flash.old) (F.state flash.new) result }
+    ensures work { Costs (2 * F.PAGES + 40 + F.SECTORS) 2 (F.state flash.old) (F.state flash.new) }
+    ensures pause { (extra : ℕ)
+        → IsRoomy F.PAGES F.SLOTS F.SECTORS (extra + failed_since (F.state flash.old) (F.state flash.new))
+        → Pauses 37 2 (F.state flash.old) (F.state flash.new)
+        (WillKeepPace F.PAGES F.SLOTS F.SECTORS F.sector_start (F.state flash.old).words extra place.old)
+        (KeepsPace F.PAGES F.SLOTS F.SECTORS (extra + failed_since (F.state flash.old) (F.state flash.new)) place.new)
+        result }
+    ensures calm { lead_of F.PAGES F.SECTORS < free_slots F.SLOTS place.old
+        → (F.state flash.new).faults ≡ (F.state flash.old).faults
+        → TakesSlot (F.state flash.old) (F.state flash.new) (place.old.copied ≡ 0) (free_slots F.SLOTS place.old)
+        (free_slots F.SLOTS place.new) result }
+    ensures slots { (n : ℕ)
+        → n + lead_of F.PAGES F.SECTORS + ((F.state flash.new).faults - (F.state flash.old).faults) < F.SLOTS
+        → WillTake F.SLOTS (log_value F.PAGES F.SLOTS F.SECTORS (F.state flash.old) place.old) n
+        → TakesInTurn F.SLOTS n (1 + ((F.state flash.new).faults - (F.state flash.old).faults))
+        (log_value F.PAGES F.SLOTS F.SECTORS (F.state flash.old) place.old)
+        (log_value F.PAGES F.SLOTS F.SECTORS (F.state flash.new) place.new) }
+    ensures tries { (n : ℕ) → n + lead_of F.PAGES F.SECTORS + TRIES ≤ F.SLOTS
+        → WillTake F.SLOTS (log_value F.PAGES F.SLOTS F.SECTORS (F.state flash.old) place.old) n
+        → (F.state flash.new).faults ≤ (F.state flash.old).faults + TRIES }
+    ensures last { OnOk result (find (F.state flash.new).words
+        (base_in F.SLOTS (turn_of F.SLOTS (F.state flash.new).words)) F.SLOTS page
+        ≡ F.SLOTS - free_slots F.SLOTS place.new) }
+    ensures regains { OnOk result ((extra : ℕ) → IsRoomy F.PAGES F.SLOTS F.SECTORS extra
+        → (F.state flash.new).faults ≡ (F.state flash.old).faults
+        → KeepsPace F.PAGES F.SLOTS F.SECTORS extra place.old
+        → RegainsSlots F.PAGES F.SLOTS extra (free_slots F.SLOTS place.old) (free_slots F.SLOTS place.new)
+        (extra_slots place.new)) }
+    ensures regains_found { OnOk result ((extra : ℕ) → IsRoomy F.PAGES F.SLOTS F.SECTORS extra
+        → (F.state flash.new).faults ≡ (F.state flash.old).faults
+        → WillKeepPace F.PAGES F.SLOTS F.SECTORS F.sector_start (F.state flash.old).words extra place.old
+        → (n : ℕ) → FindsFree F.SLOTS (F.state flash.old).words n
+        → RegainsSlots F.PAGES F.SLOTS extra n (free_slots F.SLOTS place.new) (extra_slots place.new)) }
+    ensures lost { (extra : ℕ) → IsRoomy F.PAGES F.SLOTS F.SECTORS extra
+        → (F.state flash.new).faults ≡ (F.state flash.old).faults
+        → WillKeepPace F.PAGES F.SLOTS F.SECTORS F.sector_start (F.state flash.old).words extra place.old
+        → CopiesNoPageAt F.PAGES F.SLOTS F.SECTORS (F.state flash.old) place.old (F.state flash.new)
+        → IsInPace F.PAGES F.SLOTS F.SECTORS F.sector_start (F.state flash.new).words extra }
+    ensures stands { (extra : ℕ)
+        → IsRoomy F.PAGES F.SLOTS F.SECTORS (extra + failed_since (F.state flash.old) (F.state flash.new))
+        → WillKeepPace F.PAGES F.SLOTS F.SECTORS F.sector_start (F.state flash.old).words extra place.old
+        → WillKeepPace F.PAGES F.SLOTS F.SECTORS F.sector_start (F.state flash.new).words
+        (extra + lost_since (F.state flash.old) (F.state flash.new)) place.new }
+{
+    match write_once(flash, place, page, first, words) {
+        Ok(()) => return Ok(()),
+        Err(DeviceErr::PowerLost) => return Err(DeviceErr::PowerLost),
+        Err(DeviceErr::Fault) => {}
+    }
+    try_again(flash, place, page, first, words)
+}
