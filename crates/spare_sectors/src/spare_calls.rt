@@ -306,6 +306,8 @@ pub fn erase_at<D: SpareDevice>(
         (D.state device.old))
         (without_spares D.SLOTS D.SECTORS D.SECTOR_SLOTS D.SECTOR_WORDS D.SPARES known.new.absorbed
         (D.state device.new)) result }
+    ensures chip_work { (D.state device.new).flash.operations ≤ (D.state device.old).flash.operations + 4 }
+    ensures chip_erases { (D.state device.new).flash.erases ≤ (D.state device.old).flash.erases + 2 }
     ensures takes { TakesSpare D.SECTORS D.SPARES sector (D.state device.old) (D.state device.new) result }
 {
     learn(device, known)?;

@@ -99,6 +99,9 @@ impl<D: SpareDevice> Flash for SpareFlash<D> {
         // Only an erase takes a spare. Any other Fault of the device is one of the flash.
         ensures takes { TakesNone (D.state self.old.device) (D.state self.new.device) }
         ensures fault { Lights (D.state self.old.device).flash (D.state self.new.device).flash result }
+        // The chip begins no operation for it.
+        ensures chip_work { (D.state self.new.device).flash.operations ≡ (D.state self.old.device).flash.operations }
+        ensures chip_erases { (D.state self.new.device).flash.erases ≡ (D.state self.old.device).flash.erases }
     {
         let word = read_at(&mut self.device, &mut self.known, at)?;
         Ok(word)
@@ -120,6 +123,10 @@ impl<D: SpareDevice> Flash for SpareFlash<D> {
             result }
         ensures takes { TakesNone (D.state self.old.device) (D.state self.new.device) }
         ensures fault { Lights (D.state self.old.device).flash (D.state self.new.device).flash result }
+        // The chip begins one operation for it, at most, and no erase.
+        ensures chip_work { (D.state self.new.device).flash.operations
+            ≤ (D.state self.old.device).flash.operations + 1 }
+        ensures chip_erases { (D.state self.new.device).flash.erases ≡ (D.state self.old.device).flash.erases }
     {
         program_at(&mut self.device, &mut self.known, at, words)?;
         Ok(())
@@ -146,6 +153,11 @@ impl<D: SpareDevice> Flash for SpareFlash<D> {
         // A sector that can't be erased is put into a free spare, if there is one, unless that fails too.
         ensures takes { TakesSpare D.SECTORS D.SPARES sector (D.state self.old.device) (D.state self.new.device)
             result }
+        // The chip begins at most 4 operations for it: the erase where the sector lies, and for one switch to a spare
+        // an erase and two programs.
+        ensures chip_work { (D.state self.new.device).flash.operations
+            ≤ (D.state self.old.device).flash.operations + 4 }
+        ensures chip_erases { (D.state self.new.device).flash.erases ≤ (D.state self.old.device).flash.erases + 2 }
     {
         erase_at(&mut self.device, &mut self.known, sector)?;
         Ok(())

@@ -354,6 +354,8 @@ pub fn erase_unit<D: SpareUnitDevice>(
         (without_spare_units D.SLOTS D.SECTORS D.SECTOR_FRAMES D.SPARES known.old.absorbed (D.state device.old)).flash
         (without_spare_units D.SLOTS D.SECTORS D.SECTOR_FRAMES D.SPARES known.new.absorbed (D.state device.new)).flash
         result }
+    ensures chip_work { (D.state device.new).flash.operations ≤ (D.state device.old).flash.operations + 4 }
+    ensures chip_erases { (D.state device.new).flash.erases ≤ (D.state device.old).flash.erases + 2 }
     ensures takes { TakesSpare D.SECTORS D.SPARES sector (D.state device.old) (D.state device.new) result }
 {
     learn(device, known)?;
