@@ -26,10 +26,20 @@ MOST_WRITES, SEED = SECTORS - 1, "7"
 ROUNDS = 3
 
 
-class Rounds(NamedTuple):
-    """What was counted over some rounds: the writes of the card, the records that they and the moves took, and how
-    often each sector was erased."""
+class Piece(NamedTuple):
+    """What a piece of a session did: the writes of the card, unless a move ended in it, the records that they and the
+    move took, and whether each sector was erased."""
 
+    writes: int | None
+    records: int
+    erased: tuple[bool, ...]
+
+
+class Rounds(NamedTuple):
+    """What was counted over some rounds: the sessions, the writes of the card, the records that they and the moves
+    took, and how often each sector was erased."""
+
+    sessions: int
     writes: int
     records: int
     erases: tuple[int, ...]
@@ -69,19 +79,33 @@ def pieces(program: str, image: Path, script: str) -> Iterator[Flash]:
         yield flash_of(image.read_bytes())
 
 
+def piece_of(before: Flash, after: Flash) -> Piece:
+    """What a piece did. A write takes a slot at home, and copies take slots of the other area."""
+    home = before.home
+    writes = after.areas[home].used - before.areas[home].used if after.home == home else None
+    return Piece(writes, taken(before, after), tuple(erased(before, after)))
+
+
+def in_all(found: list[Piece], times: int) -> Rounds:
+    """What pieces of so many sessions each did. One in which a move ended has as many writes as the others on
+    average."""
+    known = [it.writes for it in found if it.writes is not None]
+    writes = round(sum(known) * len(found) / len(known))
+    erases = tuple(sum(it) for it in zip(*(piece.erased for piece in found)))
+    return Rounds(times * len(found), writes, sum(it.records for it in found), erases)
+
+
 def rounds_of(program: str, made: Path, lines: list[str], writes: int) -> Rounds:
-    """Counts a session of a card, of so many writes, from the end of a round to that of another one."""
+    """Counts a session of a card, of about so many writes, from the end of a round to that of another one."""
     image, times = made.with_suffix(".flash"), MOST_WRITES // writes
     image.write_bytes(laid_out(read_image(str(made))[0].words))
-    before, ended, count, records = flash_of(image.read_bytes()), 0, 0, 0
-    erases = [0] * len(BLOCKS)
+    before, ended = flash_of(image.read_bytes()), 0
+    found: list[Piece] = []
     for after in pieces(program, image, "".join(f"{it}\n" for it in ["on", *lines] * times)):
         if 0 < ended <= ROUNDS:
-            count += times * writes
-            records += taken(before, after)
-            erases = [was + it for was, it in zip(erases, erased(before, after))]
+            found.append(piece_of(before, after))
         ended += before.turn == 2 and after.turn == 0
         before = after
         if ended > ROUNDS:
             break
-    return Rounds(count, records, tuple(erases))
+    return in_all(found, times)

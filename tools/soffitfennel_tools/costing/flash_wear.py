@@ -21,9 +21,10 @@ from .wear import GATE, PROBE, Uncut
 TOP = Path(__file__).resolve().parents[3]
 CARDS, PAGE = TOP / "examples" / "cards", TOP / "docs" / "FLASH.md"
 # The writes that an area takes behind a move to it, at least, if no power is lost: a move copies each page, a page
-# more between two of its 64 steps with copies, and at most two slots are left. Two moves erase each sector once.
-STEPS = 64
-ROOM = SLOTS - PAGES - STEPS - 2
+# more between two of its 64 steps with copies, and at most two slots are left, and those of the tries of a record. Two
+# moves erase each sector once.
+STEPS, TRIES = 64, 8
+ROOM = SLOTS - PAGES - STEPS - TRIES - 2
 MILLION = 1_000_000
 HEAD = """\
 | session | sector erases, at most; counted | gate without flash |
@@ -73,23 +74,22 @@ class Programs(NamedTuple):
 
 
 class FlashWear(NamedTuple):
-    """A session: its commands, its device writes, and those of the gate; and rounds of it on a flash."""
+    """A session: its commands, the device writes of the gate, and rounds of it on a flash."""
 
     name: str
     commands: int
-    writes: int
     gate: int
     rounds: Rounds
 
     @property
     def erases(self) -> int:
         """How often each sector is erased in a million commands, at most."""
-        return round(MILLION * self.writes / self.commands / (2 * ROOM))
+        return round(MILLION * self.rounds.writes / (self.rounds.sessions * self.commands) / (2 * ROOM))
 
     @property
     def counted_erases(self) -> int:
         """How often a sector was erased, for a million commands."""
-        return round(MILLION * self.writes / self.commands * max(self.rounds.erases) / self.rounds.writes)
+        return round(MILLION * max(self.rounds.erases) / (self.rounds.sessions * self.commands))
 
     @property
     def gate_writes(self) -> int:
@@ -109,7 +109,7 @@ class FlashWear(NamedTuple):
     @property
     def half_full(self) -> float:
         """The records of a write where half of the pages are in use."""
-        return SLOTS / (SLOTS - PAGES / 2 - self.rounds.again)
+        return (SLOTS - TRIES) / (SLOTS - TRIES - PAGES / 2 - self.rounds.again)
 
     def fault(self) -> str | None:
         """What doesn't fit what was worked out, if anything."""
@@ -169,7 +169,7 @@ def counted(programs: Programs, session: Session, folder: Path) -> FlashWear:
     check_answers(bench, made, lines, session.name)
     found = [it for at, line in enumerate(lines) for it in kinds(sweeper, made, lines[:at], line)]
     gate = sum(it in GATE for it in found)
-    return FlashWear(session.name, len(lines), len(found), gate, rounds_of(flash, made, lines, len(found)))
+    return FlashWear(session.name, len(lines), gate, rounds_of(flash, made, lines, len(found)))
 
 
 def flash_wears(programs: Programs, jobs: int) -> list[FlashWear]:
