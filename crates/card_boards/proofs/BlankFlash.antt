@@ -11,7 +11,7 @@ use Rattle.bench_turns.specs.NewlyWritten.{IsNewlyWritten}
 use Rattle.flash_device.specs.FlashCalls.{FlashState}
 use Rattle.flash_board.specs.FlashFacts.{made_of}
 use Rattle.flash_device.specs.FlashLogs.{words_of}
-use Rattle.flash_log.specs.Places.{state_of}
+use Rattle.flash_moves.specs.Places.{state_of}
 use Rattle.flash_area.specs.laws.Words.{length-words}
 
 -- a new board whose cuts leave all words of a write or none

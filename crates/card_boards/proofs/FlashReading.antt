@@ -4,8 +4,8 @@ use Rattle.std.proofs.Common.{arith, subst}
 use Rattle.nvm_board.specs.Facts.{IsMemory}
 use Rattle.nvm_board.specs.laws.Sizes.{memory_of_pages}
 use Rattle.flash_device.specs.FlashCalls.{FlashState}
-use Rattle.flash_log.specs.Places.{OpenStopsBy}
-use Rattle.flash_log.specs.Rings.{IsRing}
+use Rattle.flash_log.specs.Openings.{OpenStopsBy}
+use Rattle.flash_moves.specs.Rings.{IsRing}
 use Rattle.flash_log.specs.declared.flash_log.FlashFault.{FlashFault}
 use Rattle.flash_log.specs.declared.flash_log.FlashFault.TheVariants.{NoLog, PowerLost, Fault}
 use Rattle.flash_area.specs.laws.Words.{length-words}

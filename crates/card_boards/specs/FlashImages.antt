@@ -5,7 +5,7 @@ use Rattle.card_start.specs.declared.memory_format.MemoryFormat.TheVariants.{Two
 use Rattle.card_start.specs.Factory.{IsFactory, factory_card}
 use Rattle.flash_device.specs.FlashCalls.{FlashState}
 use Rattle.flash_device.specs.FlashLogs.{words_of}
-use Rattle.flash_log.specs.Rings.{IsRing}
+use Rattle.flash_moves.specs.Rings.{IsRing}
 use Rattle.simulated_flashes.specs.declared.garbling_flash.TheConstants.{FLASH_PAGES, FLASH_WORDS}
 use Rattle.card_boards.specs.declared.flash_image.NoFlashCard.{NoFlashCard}
 use Rattle.card_boards.specs.declared.flash_image.NoFlashCard.TheVariants as why

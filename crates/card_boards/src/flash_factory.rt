@@ -13,7 +13,8 @@ ghost use Rattle.card_boards.specs.FlashImages.{IsFactoryFlash, IsFlashReady};
 
 use card_start::format;
 use flash_board::FlashBoard;
-use flash_log::{FlashLog, format_flash};
+use flash_log::FlashLog;
+use flash_moves::format_flash;
 use simulated_boards::CutFlashBoard;
 use simulated_flashes::GarblingFlash;
 use std::alloc::{AllocError, Global};

@@ -5,7 +5,7 @@ use Rattle.std.proofs.Common.{ap, arith, refl, subst, sym, true, false, true≢f
 use Rattle.std.proofs.lemmas.Bool.{cases_lt}
 use Rattle.nvm_board.specs.Facts.{AreWords}
 use Rattle.command_base.specs.Finding.{HasCard}
-use Rattle.flash_log.specs.Rings.{IsRing}
+use Rattle.flash_moves.specs.Rings.{IsRing}
 use Rattle.simulated_flashes.specs.declared.garbling_flash.TheConstants.{FLASH_WORDS}
 use Rattle.card_boards.specs.FlashImages.{IsFlashRefusal, simulated_slots, words_on_flash}
 use Rattle.card_boards.specs.Images.{image_bytes}

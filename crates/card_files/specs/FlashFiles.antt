@@ -4,7 +4,7 @@ use Rattle.std.specs.Prelude.{if◌then◌else◌}
 use Rattle.std.specs.declared.fs.File.{File}
 use Rattle.nvm_board.specs.Facts.{AreWords}
 use Rattle.command_base.specs.Finding.{HasCard}
-use Rattle.flash_log.specs.Rings.{IsRing}
+use Rattle.flash_moves.specs.Rings.{IsRing}
 use Rattle.simulated_flashes.specs.Complements.{IsFirstRandom}
 use Rattle.simulated_flashes.specs.KeptFlashes.{kept_flash_state}
 use Rattle.simulated_flashes.specs.declared.garbling_flash.TheConstants.{FLASH_WORDS}

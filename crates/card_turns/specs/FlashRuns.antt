@@ -9,7 +9,7 @@ use Rattle.bench_turns.specs.Guessing.{GuessesFew}
 use Rattle.bench_turns.specs.Turns.{CountsLosses, IsTrace, Runs, darks}
 use Rattle.flash_device.specs.FlashCalls.{FlashState}
 use Rattle.flash_board.specs.FlashFacts.{made_of}
-use Rattle.flash_log.specs.Places.{state_of}
+use Rattle.flash_moves.specs.Places.{state_of}
 
 -- The bench with the board of a flash, and power off. All counts are 0, and the due cuts are those of the flash.
 abbrev pub bench_on : ℕ → ℕ → FlashState → BenchState

@@ -1,6 +1,6 @@
 //! Turns of the card on a flash.
 ghost use Rattle.std.specs.Prelude.{◌≡◌, false, length, IfOk, IfErr, OnErr};
-ghost use Rattle.flash_log.specs.Places.{OpenStopsBy};
+ghost use Rattle.flash_log.specs.Openings.{OpenStopsBy};
 ghost use Rattle.card_turns.specs.FlashRuns.{PlaysOnFlash};
 
 use crate::playing::Bench;

@@ -42,8 +42,8 @@ impl<F: Flash> FlashBoard<F> {
     ghost use Rattle.flash_device.specs.PageTables.{AreFree};
     ghost use Rattle.flash_board.specs.FlashFacts.{flash_facts, log_state, made_of};
     ghost use Rattle.flash_board.specs.FlashFollowers.{board_is_kept};
-    ghost use Rattle.flash_log.specs.Paces.{HasFreeSlots, IsInPace, IsRoomy, RenewsOnly, StandsInPace, failed_since};
-    ghost use Rattle.flash_log.specs.Paces.{lead_of, lost_since, move_steps_of};
+    ghost use Rattle.flash_moves.specs.Paces.{HasFreeSlots, IsInPace, IsRoomy, RenewsOnly, StandsInPace, failed_since};
+    ghost use Rattle.flash_moves.specs.Paces.{lead_of, lost_since, move_steps_of};
     ghost use Rattle.flash_log.specs.Renewals.{HoldsOnlyPages};
     ghost use Rattle.flash_log.specs.SlotsInTurn.{WillTake};
 
@@ -231,11 +231,11 @@ impl<F: Flash> FlashBoard<F> {
 impl<F: Flash> Board for FlashBoard<F> {
     ghost use Rattle.flash_board.specs.FlashFacts.{flash_facts, log_state};
     ghost use Rattle.flash_device.specs.FlashCalls.{Costs};
-    ghost use Rattle.flash_log.specs.Paces.{CopiesNoPage, IsInPace, IsRoomy, Pauses, RegainsSlots, StandsInPace};
-    ghost use Rattle.flash_log.specs.Paces.{TakesSlot, extra_of, failed_since, lead_of, lost_since};
-    ghost use Rattle.flash_log.specs.Places.{FindsFree};
+    ghost use Rattle.flash_moves.specs.Paces.{CopiesNoPage, IsInPace, IsRoomy, Pauses, RegainsSlots, StandsInPace};
+    ghost use Rattle.flash_moves.specs.Paces.{TakesSlot, extra_of, failed_since, lead_of, lost_since};
+    ghost use Rattle.flash_moves.specs.Places.{FindsFree};
     ghost use Rattle.flash_log.specs.SlotsInTurn.{TakesInTurn, WillTake};
-    ghost use Rattle.flash_log.specs.declared.ahead.TheConstants.{TRIES};
+    ghost use Rattle.flash_moves.specs.declared.ahead.TheConstants.{TRIES};
     ghost use Rattle.flash_board.specs.laws.Boards.{flash_is_board};
     ghost use Rattle.nvm_board.specs.BoardCalls.{Compares, FitsPage, TellsWord, Writes};
     ghost use Rattle.nvm_board.specs.Facts.{address};
@@ -412,7 +412,7 @@ impl<F: Flash> Board for FlashBoard<F> {
 impl<F: FlashSocket> Socket for FlashBoard<F> {
     ghost use Rattle.nvm_board.specs.Facts.{IsWornOut};
     ghost use Rattle.flash_board.specs.FlashFacts.{flash_facts, log_state};
-    ghost use Rattle.flash_log.specs.Paces.{StandsInPace};
+    ghost use Rattle.flash_moves.specs.Paces.{StandsInPace};
 
     fn light(&mut self) -> Result<(), WornOut>
         ensures worn { IsErr result ↔ IsWornOut (flash_facts self.old) }

@@ -1,6 +1,4 @@
-pub mod Paces
-pub mod Places
+pub mod Openings
 pub mod Renewals
-pub mod Rings
 pub mod SlotsInTurn
 pub mod laws

@@ -3,7 +3,7 @@ use Rattle.std.specs.Prelude.{◌≡◌, ◌≤◌, ◌+◌, ◌-◌, ◌*◌, �
 use Rattle.flash_device.specs.FlashCalls.{SameElsewhere}
 use Rattle.flash_device.specs.FlashLogs.{base_in, slot_of, turn_of}
 use Rattle.flash_device.specs.PageTables.{AreFree}
-use Rattle.flash_log.specs.Paces.{LogState}
+use Rattle.flash_moves.specs.Paces.{LogState}
 
 -- the slots that the log has passed: those that aren't free, or before it has found its pages those that writes tried
 abbrev pub passed_slots : ℕ → LogState → ℕ

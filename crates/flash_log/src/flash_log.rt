@@ -4,18 +4,17 @@ ghost use Rattle.std.specs.Prelude.{IfOk, IfErr, OnOk};
 ghost use Rattle.nvm_board.specs.Facts.{AreWords, IsMemory};
 ghost use Rattle.nvm_board.specs.History.{written};
 ghost use Rattle.flash_device.specs.FlashCalls.{Costs, Lights, Tries};
-ghost use Rattle.flash_log.specs.Paces.{CopiesNoPage, HasFreeSlots, IsRoomy, Pauses, RegainsSlots, RenewsOnly};
-ghost use Rattle.flash_log.specs.Paces.{TakesSlot};
-ghost use Rattle.flash_log.specs.Paces.{extra_of, failed_since, lead_of, lost_since, move_steps_of};
+ghost use Rattle.flash_moves.specs.Paces.{CopiesNoPage, HasFreeSlots, IsRoomy, Pauses, RegainsSlots, RenewsOnly};
+ghost use Rattle.flash_moves.specs.Paces.{TakesSlot};
+ghost use Rattle.flash_moves.specs.Paces.{extra_of, failed_since, lead_of, lost_since, move_steps_of};
 ghost use Rattle.flash_log.specs.Renewals.{HoldsOnlyPages};
-ghost use Rattle.flash_log.specs.declared.ahead.TheConstants.{TRIES};
+ghost use Rattle.flash_moves.specs.declared.ahead.TheConstants.{TRIES};
 
-use crate::place::PageMap;
 use crate::renewal::renew_pages;
 use crate::steps::read_at;
 use crate::tries::write_at;
-use crate::turns::has_ring;
 use flash_device::{CutFlash, Flash, FlashSocket, FollowedFlash, PageTable};
+use flash_moves::{PageMap, has_ring};
 use nvm_board::DeviceErr;
 use std::marker::Model;
 
@@ -38,8 +37,8 @@ pub struct FlashLog<F: Flash> {
 }
 
 impl<F: Flash> Model for FlashLog<F> {
-    ghost use Rattle.flash_log.specs.Paces.{LogState};
-    ghost use Rattle.flash_log.specs.Places.{IsLog, log_value};
+    ghost use Rattle.flash_moves.specs.Paces.{LogState};
+    ghost use Rattle.flash_moves.specs.Places.{IsLog, log_value};
 
     ghost Value = { LogState };
 
@@ -50,11 +49,12 @@ impl<F: Flash> Model for FlashLog<F> {
 }
 
 impl<F: Flash> FlashLog<F> {
-    ghost use Rattle.flash_log.specs.Places.{FindsFree, OpenStopsBy, new_log, state_of};
+    ghost use Rattle.flash_log.specs.Openings.{OpenStopsBy};
+    ghost use Rattle.flash_moves.specs.Places.{FindsFree, new_log, state_of};
     ghost use Rattle.flash_device.specs.FlashLogs.{base_in, find, turn_of};
     ghost use Rattle.flash_device.specs.PageTables.{AreFree};
-    ghost use Rattle.flash_log.specs.Paces.{IsInPace, StandsInPace};
-    ghost use Rattle.flash_log.specs.Rings.{IsRing};
+    ghost use Rattle.flash_moves.specs.Paces.{IsInPace, StandsInPace};
+    ghost use Rattle.flash_moves.specs.Rings.{IsRing};
     ghost use Rattle.flash_log.specs.SlotsInTurn.{TakesInTurn, WillTake};
 
     /// The log of a flash that has one.
@@ -279,7 +279,7 @@ impl<F: Flash> FlashLog<F> {
 }
 
 impl<F: FlashSocket> FlashLog<F> {
-    ghost use Rattle.flash_log.specs.Paces.{StandsInPace};
+    ghost use Rattle.flash_moves.specs.Paces.{StandsInPace};
 
     /// Switches power on. The next call finds the pages again.
     pub fn light(&mut self)

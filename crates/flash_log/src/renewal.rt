@@ -4,20 +4,18 @@ ghost use Rattle.flash_device.specs.FlashBlocks.{area_size};
 ghost use Rattle.flash_device.specs.FlashCalls.{AreFilled, Costs, Lights, SameElsewhere, Tries};
 ghost use Rattle.flash_device.specs.FlashLogs.{base_in, words_of};
 ghost use Rattle.flash_device.specs.PageTables.{IsPageTable};
-ghost use Rattle.flash_log.specs.Paces.{HasFreeSlots, IsRoomy, KeepsFree, KeepsPace, RenewsOnly, WillKeepPace};
-ghost use Rattle.flash_log.specs.Paces.{KeepsRoom, failed_since, free_slots, lead_of, lost_since, move_steps_of};
-ghost use Rattle.flash_log.specs.Places.{IsLog};
+ghost use Rattle.flash_moves.specs.Paces.{HasFreeSlots, IsRoomy, KeepsFree, KeepsPace, RenewsOnly, WillKeepPace};
+ghost use Rattle.flash_moves.specs.Paces.{KeepsRoom, failed_since, free_slots, lead_of, lost_since, move_steps_of};
+ghost use Rattle.flash_moves.specs.Places.{IsLog};
 ghost use Rattle.flash_area.specs.HeldPages.{HavePages, HoldsPage};
 ghost use Rattle.flash_log.specs.Renewals.{AreClean, HasLastMark, HoldsOnlyPages, IsCleanSlot};
 ghost use Rattle.flash_area.specs.Spares.{spare_in};
 ghost use Rattle.flash_device.specs.declared.flash.TheConstants.{BLANK};
 
-use crate::ahead::{lead, move_steps, pass_on, take_step};
-use crate::place::PageMap;
 use crate::steps::{find_pages, make_room};
-use crate::writing::copy_older;
 use flash_area::{home, is_blank, spare};
 use flash_device::{Flash, NUMBER_PLACE, PageTable, UNUSED_PLACE, erase_area, slot_at};
+use flash_moves::{PageMap, copy_older, lead, move_steps, pass_on, take_step};
 use nvm_board::DeviceErr;
 
 /// Passes the turn on from 1, where the other area has the mark that shows the turn.

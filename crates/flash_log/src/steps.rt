@@ -4,23 +4,22 @@ ghost use Rattle.std.specs.Prelude.{IfOk, OnErr, OnOk};
 ghost use Rattle.flash_device.specs.FlashCalls.{Costs, Lights, Tries};
 ghost use Rattle.flash_device.specs.FlashLogs.{base_in, turn_of, words_of};
 ghost use Rattle.flash_device.specs.PageTables.{AreFree, IsPageTable};
-ghost use Rattle.flash_log.specs.Paces.{CopiesNoPageAt, HasStepped, HasMoved, HasNoStepDue, IsInPace, IsRoomy};
-ghost use Rattle.flash_log.specs.Paces.{KeepsFree, KeepsPace, MovesFound, MovesWell, Pauses};
-ghost use Rattle.flash_log.specs.Paces.{IsBeforeMove, IsCaughtUp, WillKeepPace, extra_of, free_slots};
-ghost use Rattle.flash_log.specs.Paces.{KeepsRoom, StandsSo, failed_since, is_fresh, lead_of, lost_since};
-ghost use Rattle.flash_log.specs.Places.{FindsFree, IsLog, IsPlaceOf, log_value};
+ghost use Rattle.flash_moves.specs.Paces.{CopiesNoPageAt, HasStepped, HasMoved, HasNoStepDue, IsInPace, IsRoomy};
+ghost use Rattle.flash_moves.specs.Paces.{KeepsFree, KeepsPace, MovesFound, MovesWell, Pauses};
+ghost use Rattle.flash_moves.specs.Paces.{IsBeforeMove, IsCaughtUp, WillKeepPace, extra_of, free_slots};
+ghost use Rattle.flash_moves.specs.Paces.{KeepsRoom, StandsSo, failed_since, is_fresh, lead_of, lost_since};
+ghost use Rattle.flash_moves.specs.Places.{FindsFree, IsLog, IsPlaceOf, log_value};
 ghost use Rattle.flash_log.specs.SlotsInTurn.{FindsNext, IsNextSlot, WillTake};
 ghost use Rattle.flash_area.specs.HeldPages.{HavePages};
 ghost use Rattle.flash_area.specs.Spares.{IsSpare, KeepsSectors, KeepsSteps, copies_most};
 ghost use Rattle.flash_log.specs.Renewals.{HasLastMark};
 ghost use Rattle.flash_device.specs.declared.layout.TheConstants.{STEP_PAGES};
 
-use crate::ahead::{lead, take_step};
-use crate::place::PageMap;
-use crate::turns::{find_turn, move_to_a, move_to_b, pass_witness};
-use crate::writing::copy_older;
 use flash_area::{Progress, find_progress, home, read_page_word, scan};
 use flash_device::{Flash, copy_steps};
+use flash_moves::{
+    PageMap, copy_older, find_turn, lead, move_to_a, move_to_b, pass_witness, take_step,
+};
 use nvm_board::DeviceErr;
 
 /// Passes over the slots that were tried.

@@ -6,20 +6,18 @@ ghost use Rattle.nvm_board.specs.declared.board.DeviceErr.TheVariants as DeviceE
 ghost use Rattle.flash_device.specs.FlashBlocks.{steps_of};
 ghost use Rattle.flash_device.specs.FlashCalls.{Costs, Lights, Tries};
 ghost use Rattle.flash_device.specs.FlashLogs.{base_in, find, turn_of, words_of};
-ghost use Rattle.flash_log.specs.Paces.{CopiesNoPageAt, HasStepped, IsBrief, IsInPace, IsRoomy, KeepsPace, OwnsOlder};
-ghost use Rattle.flash_log.specs.Paces.{Pauses, RegainsSlots, TakesSlot, WillKeepPace, extra_of, extra_slots};
-ghost use Rattle.flash_log.specs.Paces.{failed_since, free_slots, lead_of, lost_since, move_steps_of};
-ghost use Rattle.flash_log.specs.Paces.{steps_left as steps_left_of};
-ghost use Rattle.flash_log.specs.Places.{FindsFree, IsLog, log_value};
+ghost use Rattle.flash_moves.specs.Paces.{CopiesNoPageAt, HasStepped, IsBrief, IsInPace, IsRoomy, KeepsPace, OwnsOlder};
+ghost use Rattle.flash_moves.specs.Paces.{Pauses, RegainsSlots, TakesSlot, WillKeepPace, extra_of, extra_slots};
+ghost use Rattle.flash_moves.specs.Paces.{failed_since, free_slots, lead_of, lost_since, move_steps_of};
+ghost use Rattle.flash_moves.specs.Paces.{steps_left as steps_left_of};
+ghost use Rattle.flash_moves.specs.Places.{FindsFree, IsLog, log_value};
 ghost use Rattle.flash_log.specs.SlotsInTurn.{TakesInTurn, WillTake};
-ghost use Rattle.flash_log.specs.declared.ahead.TheConstants.{TRIES};
+ghost use Rattle.flash_moves.specs.declared.ahead.TheConstants.{TRIES};
 
-use crate::ahead::{TRIES, move_steps};
-use crate::place::PageMap;
 use crate::steps::{find_pages, prepare};
-use crate::writing::write_run;
 use flash_area::{home, older_page};
 use flash_device::{Flash, copy_steps};
+use flash_moves::{PageMap, TRIES, move_steps, write_run};
 use nvm_board::DeviceErr;
 
 /// The steps that are left of a move.

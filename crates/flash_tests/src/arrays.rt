@@ -4,7 +4,8 @@ ghost use Rattle.std.specs.Prelude.{◌<◌, ◌≤◌, ◌+◌};
 
 use flash_board::FlashBoard;
 use flash_device::FlashSocket;
-use flash_log::{FlashLog, format_flash};
+use flash_log::FlashLog;
+use flash_moves::format_flash;
 use nvm_board::{Board, DeviceErr};
 use program_units::UnitFlash;
 use simulated_boards::RamBoard;

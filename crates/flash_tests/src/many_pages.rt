@@ -2,7 +2,8 @@
 
 use flash_board::FlashBoard;
 use flash_device::FlashSocket;
-use flash_log::{FlashLog, format_flash};
+use flash_log::FlashLog;
+use flash_moves::format_flash;
 use nvm_board::{Board, DeviceErr};
 use simulated_chips::WideFlash;
 use std::test::Fail;

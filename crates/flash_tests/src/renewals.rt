@@ -2,7 +2,7 @@
 
 use crate::arrays::powered;
 use flash_board::FlashBoard;
-use flash_log::format_flash;
+use flash_moves::format_flash;
 use nvm_board::{Board, DeviceErr};
 use simulated_chips::SimFlash;
 use std::test::Fail;

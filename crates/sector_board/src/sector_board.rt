@@ -173,7 +173,7 @@ impl<F: SectorFlash> Board for SectorBoard<F> {
     ghost use Rattle.flash_device.specs.FlashBlocks.{steps_of};
     ghost use Rattle.flash_device.specs.FlashCalls.{Costs};
     ghost use Rattle.flash_device.specs.FlashLogs.{base_in, find, turn_of};
-    ghost use Rattle.flash_log.specs.Places.{FindsFree};
+    ghost use Rattle.flash_moves.specs.Places.{FindsFree};
     ghost use Rattle.nvm_board.specs.BoardCalls.{Compares, FitsPage, TellsWord, Writes};
     ghost use Rattle.nvm_board.specs.Facts.{address};
     ghost use Rattle.sector_board.specs.SectorFacts.{sector_facts, sector_state};

@@ -1,14 +1,14 @@
 -- Where the pages of a flash with small sectors are, as working memory knows it.
 use Rattle.std.specs.Prelude.{◌≡◌, ◌⊎◌, ◌<◌, ◌≤◌, ◌+◌, ℕ, Bool, true, false, List}
-use Rattle.flash_log.specs.declared.place.PageMap.{PageMap}
+use Rattle.flash_moves.specs.declared.place.PageMap.{PageMap}
 use Rattle.sector_log.specs.declared.opening.SectorFault.{SectorFault}
 use Rattle.sector_log.specs.declared.opening.SectorFault.TheVariants.{NoLog, OutOfStep, PowerLost, Fault}
 use Rattle.flash_device.specs.FlashCalls.{FlashState, GoesOut, HasFailed, StaysLit}
 use Rattle.flash_device.specs.FlashLogs.{base_in, turn_of}
 use Rattle.flash_device.specs.PageTables.{IsPageTable, AreFree}
-use Rattle.flash_log.specs.Paces.{free_slots, is_fresh}
-use Rattle.flash_log.specs.Places.{state_of}
-use Rattle.flash_log.specs.Rings.{IsRing}
+use Rattle.flash_moves.specs.Paces.{free_slots, is_fresh}
+use Rattle.flash_moves.specs.Places.{state_of}
+use Rattle.flash_moves.specs.Rings.{IsRing}
 use Rattle.sector_log.specs.SectorSpares.{HasRoomForSteps, IsSectorSpare, sector_lead, sector_steps}
 
 -- All that contracts know of a log: its flash, with the words of the board in place of its own, whether it has yet to

@@ -8,7 +8,7 @@ ghost use Rattle.flash_device.specs.PutRecords.{IsPut};
 ghost use Rattle.flash_device.specs.declared.layout.TheConstants.{STEP_PAGES};
 ghost use Rattle.flash_area.specs.PageCopies.{KeepsOthers};
 ghost use Rattle.flash_area.specs.Spares.{spare_in, spare_sector};
-ghost use Rattle.flash_log.specs.Rings.{IsRing};
+ghost use Rattle.flash_moves.specs.Rings.{IsRing};
 ghost use Rattle.sector_log.specs.SectorSpares.{HasSectorCopies, HasStepCopies, PutsPage, SpendsSlots};
 ghost use Rattle.sector_log.specs.declared.filling.TheConstants.{STEP_SLOTS};
 

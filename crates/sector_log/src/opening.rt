@@ -3,8 +3,8 @@ ghost use Rattle.std.specs.Prelude.{◌≡◌, ◌<◌, ◌≤◌, ◌+◌, ◌-
 ghost use Rattle.std.specs.Prelude.{IfNone, IfOk, IfSome, OnOk};
 ghost use Rattle.flash_device.specs.FlashCalls.{Lights};
 ghost use Rattle.flash_device.specs.FlashLogs.{turn_of, words_of};
-ghost use Rattle.flash_log.specs.Places.{FindsFree};
-ghost use Rattle.flash_log.specs.Rings.{IsRing};
+ghost use Rattle.flash_moves.specs.Places.{FindsFree};
+ghost use Rattle.flash_moves.specs.Rings.{IsRing};
 ghost use Rattle.sector_log.specs.SectorPlaces.{IsNotInStep, KeepsStep, place_steps};
 ghost use Rattle.sector_log.specs.SectorSpares.{HasRoomForSteps, last_sectors};
 ghost use Rattle.flash_device.specs.FlashBlocks.{steps_of};
@@ -12,7 +12,7 @@ ghost use Rattle.flash_device.specs.FlashBlocks.{steps_of};
 use crate::sector_flash::SectorFlash;
 use crate::steps::{find_place, steps_left};
 use flash_device::{Flash, PageTable};
-use flash_log::{PageMap, format_flash, has_ring};
+use flash_moves::{PageMap, format_flash, has_ring};
 use nvm_board::DeviceErr;
 
 /// The reason why a flash isn't taken.

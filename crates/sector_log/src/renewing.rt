@@ -8,7 +8,8 @@ ghost use Rattle.sector_log.specs.SectorSpares.{sector_lead};
 
 use crate::sector_flash::SectorFlash;
 use crate::steps::{find_pages, take_step};
-use flash_log::{PageMap, leave_area};
+use flash_log::leave_area;
+use flash_moves::PageMap;
 use nvm_board::DeviceErr;
 
 /// Finds the pages, and ends the move that is under way. Then no step is due.

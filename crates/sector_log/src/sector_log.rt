@@ -12,7 +12,7 @@ use crate::renewing::renew_at;
 use crate::sector_flash::SectorFlash;
 use crate::steps::{read_at, write_at};
 use flash_device::FlashSocket;
-use flash_log::PageMap;
+use flash_moves::PageMap;
 use nvm_board::DeviceErr;
 use std::marker::Model;
 
@@ -38,9 +38,9 @@ impl<F: SectorFlash> SectorLog<F> {
     ghost use Rattle.flash_device.specs.FlashCalls.{StaysLit};
     ghost use Rattle.flash_device.specs.FlashBlocks.{steps_of};
     ghost use Rattle.flash_device.specs.FlashLogs.{base_in, find, turn_of, words_of};
-    ghost use Rattle.flash_log.specs.Places.{FindsFree, state_of};
+    ghost use Rattle.flash_moves.specs.Places.{FindsFree, state_of};
     ghost use Rattle.flash_log.specs.Renewals.{HoldsOnlyPages};
-    ghost use Rattle.flash_log.specs.Rings.{IsRing};
+    ghost use Rattle.flash_moves.specs.Rings.{IsRing};
     ghost use Rattle.sector_log.specs.SectorPlaces.{SectorOpenStopsBy, new_sector_log};
     ghost use Rattle.sector_log.specs.SectorSpares.{HasRoomForSteps, sector_lead, spare_slot};
 

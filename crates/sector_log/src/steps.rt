@@ -6,9 +6,9 @@ ghost use Rattle.flash_device.specs.FlashBlocks.{steps_of};
 ghost use Rattle.flash_device.specs.FlashCalls.{Costs, Lights, Tries};
 ghost use Rattle.flash_device.specs.FlashLogs.{base_in, find, turn_of, words_of};
 ghost use Rattle.flash_device.specs.PageTables.{IsPageTable};
-ghost use Rattle.flash_log.specs.Paces.{free_slots, is_fresh};
-ghost use Rattle.flash_log.specs.Places.{FindsFree};
-ghost use Rattle.flash_log.specs.Rings.{IsRing};
+ghost use Rattle.flash_moves.specs.Paces.{free_slots, is_fresh};
+ghost use Rattle.flash_moves.specs.Places.{FindsFree};
+ghost use Rattle.flash_moves.specs.Rings.{IsRing};
 ghost use Rattle.nvm_board.specs.declared.board.DeviceErr.TheVariants as DeviceErr;
 ghost use Rattle.sector_log.specs.SectorPlaces.{EndsSectorStep, HasTakenStep, IsSectorLog, IsSectorPlace, KeepsStep};
 ghost use Rattle.sector_log.specs.SectorPlaces.{StaysInStep, place_steps};
@@ -22,7 +22,7 @@ use crate::progress::{StepsTaken, find_steps};
 use crate::sector_flash::SectorFlash;
 use flash_area::{first_sector_of_spare, home, older_page, read_page_word, scan};
 use flash_device::{Flash, copy_steps};
-use flash_log::{PageMap, find_turn, pass_turn, pass_witness, write_run};
+use flash_moves::{PageMap, find_turn, pass_turn, pass_witness, write_run};
 use nvm_board::DeviceErr;
 
 /// The number of times that a write is tried, until a Fault of the flash is returned.

@@ -4,7 +4,8 @@ ghost use Rattle.std.specs.Prelude.{◌≡◌, ◌<◌, ◌≤◌, ◌+◌, ◌%
 
 use flash_board::FlashBoard;
 use flash_device::{BLANK, FIRST_MARK, Flash, FlashSocket, SECOND_MARK};
-use flash_log::{FlashLog, format_flash};
+use flash_log::FlashLog;
+use flash_moves::format_flash;
 use nvm_board::{Board, DeviceErr, Socket};
 use sector_board::SectorBoard;
 use sector_log::{SectorFault, SectorLog, format_sectors};

@@ -38,8 +38,8 @@ fn set_operation<F: CutFlash>(board: &mut FlashBoard<F>, mask: u16)
 
 impl<F: CutFlash> CutFlashBoard<F> {
     ghost use Rattle.flash_board.specs.FlashFacts.{made_of};
-    ghost use Rattle.flash_log.specs.Places.{state_of};
-    ghost use Rattle.flash_log.specs.Rings.{IsRing};
+    ghost use Rattle.flash_moves.specs.Places.{state_of};
+    ghost use Rattle.flash_moves.specs.Rings.{IsRing};
     ghost use Rattle.simulated_boards.specs.CutFlashFacts.{cut_flash_facts};
 
     /// Returns the board on a powered flash that has a log and no cut set. It is the board of this flash, since code

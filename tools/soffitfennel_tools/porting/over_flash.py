@@ -13,7 +13,7 @@ FLASH_FILES, FLASH_EXAMPLE = Path(__file__).with_name("flash_files"), TOP / "exa
 FLASH, CARD_LIBRARY = "device_flash", "card_device staticlib"
 OWN_ON_FLASH = {
     FLASH: "nvm_board flash_device",
-    CARD_LIBRARY: "nvm_board flash_log flash_board undo_journal device_flash t1_link card_start "
+    CARD_LIBRARY: "nvm_board flash_moves flash_log flash_board undo_journal device_flash t1_link card_start "
     "card_core card_turns",
 }
 # what differs there: the flash is made of what the device is
@@ -191,7 +191,7 @@ SMALL_TEXTS = {
         "sector_board.specs.laws.SectorBoards.{sector_is_board as flash_is_board}",
     },
     "crates/card_device/src/making.rt": SMALL_BOARD | {
-        "use flash_log::{FlashLog, format_flash};":
+        "use flash_log::FlashLog;\nuse flash_moves::format_flash;":
         "use sector_log::{SectorLog as FlashLog, format_sectors as format_flash};",
     },
     # (a flash of another log may have no slot for each step that is left)

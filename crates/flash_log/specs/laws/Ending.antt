@@ -2,15 +2,15 @@
 use Rattle.std.specs.Prelude.{◌≡◌, ◌≢◌, ◌⊎◌, ◌<◌, ◌≤◌, ◌+◌, ◌-◌, ◌*◌, ℕ, true, false, List}
 use Rattle.std.proofs.Common.{sym, inl, inr, ⊎_elim, subst, arith, true≢false, ◌∙◌}
 use Rattle.std.proofs.lemmas.Bool.{cases_eq, cases_lt}
-use Rattle.flash_log.specs.declared.place.PageMap.{PageMap}
+use Rattle.flash_moves.specs.declared.place.PageMap.{PageMap}
 use Rattle.nvm_board.specs.declared.board.TheConstants.{LEAST_PAGES}
 use Rattle.flash_device.specs.FlashBlocks.{area_size, steps_of, witness_start}
-use Rattle.flash_log.specs.Paces.{HasStepped, IsCaughtUp, IsInPaceFrom, KeepsPace, StandsSo, WillKeepPace}
-use Rattle.flash_log.specs.Paces.{EndsStep, HasFreeSlots, LogState, StandsInPace, free_slots, lead_of}
-use Rattle.flash_log.specs.Paces.{move_steps_of, steps_left}
-use Rattle.flash_log.specs.Places.{FindsFree, IsLog}
-use Rattle.flash_log.specs.laws.Losing.{free_in_pace}
-use Rattle.flash_log.specs.laws.Pacing.{caught_more, free_of, from_more, paced_more, place_in_pace, stepped_paced}
+use Rattle.flash_moves.specs.Paces.{HasStepped, IsCaughtUp, IsInPaceFrom, KeepsPace, StandsSo, WillKeepPace}
+use Rattle.flash_moves.specs.Paces.{EndsStep, HasFreeSlots, LogState, StandsInPace, free_slots, lead_of}
+use Rattle.flash_moves.specs.Paces.{move_steps_of, steps_left}
+use Rattle.flash_moves.specs.Places.{FindsFree, IsLog}
+use Rattle.flash_moves.specs.laws.Losing.{free_in_pace}
+use Rattle.flash_moves.specs.laws.Pacing.{caught_more, free_of, from_more, paced_more, place_in_pace, stepped_paced}
 
 -- So many steps are taken: as many fewer are left, or the pages have moved.
 pub record HasTaken {T : Type 0} (pages slots sectors extra taken : ℕ) (p : PageMap T) : Type 0 where

@@ -5,44 +5,27 @@ use Rattle.std.proofs.Common.{sym, ◌∙◌, ap, inl, inr, ⊎_elim, subst, ari
 use Rattle.std.proofs.lemmas.Bool.{cases_eq, cases_lt, eqb-true, ne_eqb}
 use Rattle.flash_device.specs.declared.flash.TheConstants.{BLANK, BLOCKS}
 use Rattle.nvm_board.specs.declared.board.TheConstants.{LEAST_PAGES}
-use Rattle.flash_log.specs.declared.place.PageMap.{PageMap}
+use Rattle.flash_moves.specs.declared.place.PageMap.{PageMap}
 use Rattle.flash_device.specs.FlashBlocks.{area_size, steps_of, witness_start}
 use Rattle.flash_device.specs.FlashCalls.{SameElsewhere, AreFilled}
 use Rattle.flash_device.specs.FlashLogs.{base_in, close_b, close_of, is_marked, slot_of, turn_of, word_of}
 use Rattle.flash_device.specs.FlashLogs.{words_of}
-use Rattle.flash_log.specs.Paces.{KeepsPace}
+use Rattle.flash_moves.specs.Paces.{KeepsPace}
 use Rattle.flash_device.specs.PageTables.{AreFree}
 use Rattle.flash_area.specs.HeldPages.{HavePages, HoldsPage}
 use Rattle.flash_log.specs.Renewals.{AreClean, HasLastMark, HoldsOnlyPages}
-use Rattle.flash_log.specs.Rings.{IsRing}
+use Rattle.flash_moves.specs.Rings.{IsRing}
 use Rattle.flash_area.specs.Spares.{IsSpare, spare_in}
-use Rattle.flash_area.specs.laws.Copying.{SameArea, area_found, area_word}
 use Rattle.flash_device.specs.laws.Finding.{find-tells}
-use Rattle.flash_device.specs.laws.Indexing.{find_most}
 use Rattle.flash_device.specs.laws.Marks.{blank_part, mark_same, open_blank}
-use Rattle.flash_log.specs.laws.Moving.{witness_area}
-use Rattle.flash_log.specs.laws.Pacing.{both}
+use Rattle.flash_moves.specs.laws.Moving.{same_held, witness_area}
+use Rattle.flash_moves.specs.laws.Pacing.{both}
 use Rattle.flash_area.specs.laws.Erased.{copies_none}
-use Rattle.flash_log.specs.laws.Sparing.{spare_leaves}
-use Rattle.flash_log.specs.laws.Turns.{two_marks, zero_marks}
+use Rattle.flash_moves.specs.laws.Sparing.{spare_leaves}
+use Rattle.flash_moves.specs.laws.Turns.{two_marks, zero_marks}
 use Rattle.flash_area.specs.laws.Words.{index-page}
 
 module _ (pages slots : ℕ) where
-  -- the pages stay where the area does
-  pub same_held : (m after : List ℕ) (base next : ℕ) → SameArea slots m after base
-      → HavePages pages slots m base next → HavePages pages slots after base next
-  same_held m after base next same have = record {
-    each = λ s lt.
-        let held = have.each s lt in
-        let found = held.found in
-        let most = find_most m base slots held.page in record {
-          page = held.page;
-          below = held.below;
-          found = area_found slots m after base same held.page ∙ found;
-          unused = area_word slots m after base same s 17 (omega (arith, found, most)) (omega arith) ∙ held.unused;
-        };
-  }
-
   -- the words of a slot that holds a page are those of the board
   pub held_words : (m : List ℕ) (s k : ℕ) (held : HoldsPage pages slots m (base_in slots (turn_of slots m)) s) → k < 16
       → slice_index m (slot_of (base_in slots (turn_of slots m)) s + k)
@@ -68,7 +51,8 @@ module _ (pages slots : ℕ) where
   -- the pages stay where only the other area changes
   pub home_held : (m after : List ℕ) (turn next : ℕ) → SameElsewhere m (spare_in slots turn) (area_size slots) after
       → HavePages pages slots m (base_in slots turn) next → HavePages pages slots after (base_in slots turn) next
-  home_held m after turn next h = same_held m after (base_in slots turn) next (spare_leaves slots m after turn h)
+  home_held m after turn next h =
+      same_held pages slots m after (base_in slots turn) next (spare_leaves slots m after turn h)
 
   -- the mark that passes the turn from 1 to the witness
   pub last_on : (m : List ℕ) → is_marked m (close_b slots) ≡ true → HasLastMark slots m 2
@@ -77,7 +61,8 @@ module _ (pages slots : ℕ) where
   -- behind it the pages are where they were
   pub held_on : (m after : List ℕ) (turn next : ℕ) → turn ≡ 1 → SameElsewhere m (close_b slots) 4 after
       → HavePages pages slots m (base_in slots turn) next → HavePages pages slots after (area_size slots) next
-  held_on m after turn next one h have = same_held m after (area_size slots) next (witness_area pages slots m after h)
+  held_on m after turn next one h have =
+      same_held pages slots m after (area_size slots) next (witness_area pages slots m after h)
       (subst (λ (t : ℕ). HavePages pages slots m (base_in slots t) next) one have)
 
   -- the words and the number of a slot that holds a page

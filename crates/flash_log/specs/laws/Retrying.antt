@@ -3,7 +3,7 @@ use Rattle.std.specs.Prelude.{◌≤◌, ◌+◌, ℕ, Result, Ok, Err, IsOk, On
 use Rattle.nvm_board.specs.declared.board.DeviceErr.{DeviceErr}
 use Rattle.std.proofs.Common.{refl, sym, ◌∙◌, arith, true≢false}
 use Rattle.flash_device.specs.FlashCalls.{FlashState, KeepsPower, Lights, Tries}
-use Rattle.flash_log.specs.Places.{state_of}
+use Rattle.flash_moves.specs.Places.{state_of}
 
 -- what holds of a value, where there is one
 pub holds_ok : {T E P : Type 0} (r : Result T E) → OnOk r P → IsOk r → P

@@ -3,16 +3,16 @@ use Rattle.std.specs.Prelude.{◌≡◌, ◌≢◌, ◌<◌, ◌≤◌, ◌+◌,
 use Rattle.std.specs.Prelude.{if◌then◌else◌}
 use Rattle.std.proofs.Common.{refl, sym, ◌∙◌, ap, subst, arith, true≢false, ⊎_elim}
 use Rattle.std.proofs.lemmas.Bool.{cases_eq}
-use Rattle.flash_log.specs.declared.place.PageMap.{PageMap}
+use Rattle.flash_moves.specs.declared.place.PageMap.{PageMap}
 use Rattle.flash_device.specs.FlashCalls.{FlashState, SameElsewhere}
 use Rattle.flash_device.specs.FlashLogs.{base_in, slot_of, turn_of}
 use Rattle.flash_device.specs.PageTables.{AreFree}
 use Rattle.flash_device.specs.laws.Marks.{elsewhere_then, elsewhere_wider}
 use Rattle.flash_area.specs.Spares.{copies_most}
-use Rattle.flash_log.specs.Paces.{HasStepped, KeepsPace, LogState, extra_slots, free_slots, lead_of, move_steps_of}
-use Rattle.flash_log.specs.Places.{log_value}
+use Rattle.flash_moves.specs.Paces.{HasStepped, KeepsPace, LogState, extra_slots, free_slots, lead_of, move_steps_of}
+use Rattle.flash_moves.specs.Places.{log_value}
 use Rattle.flash_log.specs.SlotsInTurn.{FindsNext, IsNextSlot, TakesInTurn, WillTake, passed_slots}
-use Rattle.flash_log.specs.laws.Pacing.{free_of, is_paced_by, paced_is, steps_most}
+use Rattle.flash_moves.specs.laws.Pacing.{free_of, is_paced_by, paced_is, steps_most}
 
 -- the slot behind those that are passed is the next one, if it is free with all behind it
 pub next_behind : (slots : ℕ) (m : List ℕ) (n : ℕ) → AreFree m (base_in slots (turn_of slots m)) n slots

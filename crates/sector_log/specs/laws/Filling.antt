@@ -19,9 +19,9 @@ use Rattle.flash_area.specs.PageCopies.{KeepsOthers}
 use Rattle.flash_area.specs.Spares.{spare_in, spare_sector}
 use Rattle.flash_area.specs.laws.Copying.{SameArea, area_found, area_page, last_found}
 use Rattle.flash_area.specs.laws.Words.{index-page, words_same}
-use Rattle.flash_log.specs.Rings.{SameMarks}
-use Rattle.flash_log.specs.laws.Sparing.{sides, spare_leaves}
-use Rattle.flash_log.specs.laws.Turns.{turn_same}
+use Rattle.flash_moves.specs.Rings.{SameMarks}
+use Rattle.flash_moves.specs.laws.Sparing.{sides, spare_leaves}
+use Rattle.flash_moves.specs.laws.Turns.{turn_same}
 use Rattle.sector_log.specs.SectorSpares.{HasSectorCopies, PutsPage, spare_slot, spare_slots}
 use Rattle.sector_log.specs.laws.Sizing.{begins_behind, ends_before, last_behind}
 

@@ -21,14 +21,14 @@ use Rattle.flash_area.specs.Spares.{HasCopies, spare_in, spare_sector}
 use Rattle.flash_area.specs.laws.Copying.{SameArea, area_found, area_free, area_page}
 use Rattle.flash_area.specs.laws.Sectors.{spare_end}
 use Rattle.flash_area.specs.laws.Words.{written_other}
-use Rattle.flash_log.specs.declared.place.PageMap.{PageMap}
-use Rattle.flash_log.specs.Paces.{HasMoved}
-use Rattle.flash_log.specs.Places.{IsPlaceOf}
-use Rattle.flash_log.specs.Rings.{IsRing, SameMarks}
-use Rattle.flash_log.specs.laws.Moving.{Stays}
-use Rattle.flash_log.specs.laws.Sparing.{SameBlock, block_area, home_leaves, index_same, pass_block}
-use Rattle.flash_log.specs.laws.Sparing.{pass_home, pass_turns, pass_words, spare_leaves, spare_stays}
-use Rattle.flash_log.specs.laws.Turns.{ring_same, turn_same}
+use Rattle.flash_moves.specs.declared.place.PageMap.{PageMap}
+use Rattle.flash_moves.specs.Paces.{HasMoved}
+use Rattle.flash_moves.specs.Places.{IsPlaceOf}
+use Rattle.flash_moves.specs.Rings.{IsRing, SameMarks}
+use Rattle.flash_moves.specs.laws.Moving.{Stays}
+use Rattle.flash_moves.specs.laws.Sparing.{SameBlock, block_area, home_leaves, index_same, pass_block}
+use Rattle.flash_moves.specs.laws.Sparing.{pass_home, pass_turns, pass_words, spare_leaves, spare_stays}
+use Rattle.flash_moves.specs.laws.Turns.{ring_same, turn_same}
 use Rattle.sector_log.specs.laws.Sizing.{sector_high, sector_low}
 use Rattle.sector_log.specs.laws.Stepping.{none_begun, sector_steps_most}
 use Rattle.sector_log.specs.SectorPlaces.{HasTakenStep, IsSectorLog, IsSectorPlace, KeepsStep}

@@ -4,12 +4,12 @@ use Rattle.std.proofs.Common.{sym, ◌∙◌, ⊎_elim, subst, arith, true≢fal
 use Rattle.std.proofs.lemmas.Bool.{cases_lt}
 use Rattle.nvm_board.specs.declared.board.TheConstants.{LEAST_PAGES}
 use Rattle.flash_device.specs.declared.layout.TheConstants.{SPARES}
-use Rattle.flash_log.specs.declared.place.PageMap.{PageMap}
+use Rattle.flash_moves.specs.declared.place.PageMap.{PageMap}
 use Rattle.flash_device.specs.FlashBlocks.{area_size, steps_of, witness_start}
 use Rattle.flash_device.specs.FlashLogs.{base_in, turn_of}
 use Rattle.flash_device.specs.PageTables.{AreFree}
-use Rattle.flash_log.specs.Paces.{KeepsRoom}
-use Rattle.flash_log.specs.Rings.{IsRing}
+use Rattle.flash_moves.specs.Paces.{KeepsRoom}
+use Rattle.flash_moves.specs.Rings.{IsRing}
 use Rattle.sector_log.specs.laws.Stepping.{none_begun, sector_steps_most}
 use Rattle.sector_log.specs.SectorPlaces.{IsSectorLog}
 use Rattle.sector_log.specs.SectorSpares.{HasRoomForSteps, sector_lead}

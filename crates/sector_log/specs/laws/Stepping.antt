@@ -10,7 +10,7 @@ use Rattle.flash_device.specs.PageTables.{AreFree, IsFirstFreeSlot}
 use Rattle.flash_device.specs.laws.Indexing.{find_zero, free_later}
 use Rattle.flash_area.specs.Spares.{spare_in, spare_sector}
 use Rattle.flash_area.specs.laws.Sectors.{spare_first}
-use Rattle.flash_log.specs.declared.place.PageMap.{PageMap}
+use Rattle.flash_moves.specs.declared.place.PageMap.{PageMap}
 use Rattle.sector_log.specs.SectorPlaces.{IsSectorPlace, KeepsStep, place_steps}
 use Rattle.sector_log.specs.SectorSpares.{HasRoomForSteps, IsSectorSpare, sector_steps, spare_slots}
 

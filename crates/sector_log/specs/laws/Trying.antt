@@ -5,8 +5,8 @@ use Rattle.nvm_board.specs.declared.board.DeviceErr.{DeviceErr}
 use Rattle.nvm_board.specs.declared.board.DeviceErr.TheVariants.{Fault}
 use Rattle.flash_device.specs.FlashBlocks.{steps_of}
 use Rattle.flash_device.specs.FlashCalls.{FlashState, KeepsPower, Tries}
-use Rattle.flash_log.specs.declared.place.PageMap.{PageMap}
-use Rattle.flash_log.specs.Paces.{free_slots}
+use Rattle.flash_moves.specs.declared.place.PageMap.{PageMap}
+use Rattle.flash_moves.specs.Paces.{free_slots}
 use Rattle.sector_log.specs.declared.steps.TheConstants.{TRIES}
 use Rattle.sector_log.specs.SectorPlaces.{place_steps}
 use Rattle.sector_log.specs.SectorSpares.{sector_lead}

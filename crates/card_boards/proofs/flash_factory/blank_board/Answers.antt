@@ -1,7 +1,7 @@
 use Rattle.std.proofs.Common.{◌≡◌, ◌∙◌, ap, refl}
 use Rattle.flash_device.specs.FlashCalls.{FlashState}
 use Rattle.flash_board.specs.FlashFacts.{made_of}
-use Rattle.flash_log.specs.Paces.{LogState}
+use Rattle.flash_moves.specs.Paces.{LogState}
 use Rattle.simulated_flashes.specs.GarblingStates.{garbling_state}
 use Rattle.card_boards.proofs.BlankFlash.{blank_is_new}
 use Rattle.card_boards.proofs.flash_factory.blank_board.Goals as goal

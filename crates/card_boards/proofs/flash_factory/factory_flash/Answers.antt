@@ -4,7 +4,7 @@ use Rattle.card_start.specs.declared.memory_format.MemoryFormat.TheVariants.{Two
 use Rattle.card_start.specs.Factory.{IsFactory, factory_card}
 use Rattle.command_base.specs.Finding.{Finds}
 use Rattle.flash_device.specs.FlashCalls.{FlashState}
-use Rattle.flash_log.specs.Rings.{IsRing}
+use Rattle.flash_moves.specs.Rings.{IsRing}
 use Rattle.card_boards.specs.FlashImages.{simulated_slots, words_on_flash}
 use Rattle.card_boards.proofs.flash_factory.factory_flash.Goals as goal
 

@@ -1,7 +1,7 @@
 use Rattle.std.proofs.Common.{◌≡◌, List, ℕ, ap, subst, ◌∙◌}
 use Rattle.nvm_board.specs.Facts.{IsMemory}
 use Rattle.command_base.specs.Finding.{HasCard}
-use Rattle.flash_log.specs.Paces.{LogState}
+use Rattle.flash_moves.specs.Paces.{LogState}
 use Rattle.card_boards.specs.FlashImages.{words_on_flash}
 use Rattle.card_boards.proofs.FlashReading.{are_memory, rightly_told}
 use Rattle.card_boards.proofs.flash_image.check_card.Goals as goal

@@ -1,13 +1,13 @@
 use Rattle.std.proofs.Common.{◌≡◌, ◌<◌, ◌≤◌, ◌+◌, ◌∙◌, ℕ, false, refl, inl, subst, arith}
 use Rattle.flash_device.specs.FlashLogs.{base_in}
 use Rattle.flash_device.specs.PageTables.{AreFree}
-use Rattle.flash_log.specs.Paces.{IsCaughtUp, IsRoomy, KeepsPace, extra_of, failed_since, lead_of}
-use Rattle.flash_log.specs.Paces.{lost_since, move_steps_of}
+use Rattle.flash_moves.specs.Paces.{IsCaughtUp, IsRoomy, KeepsPace, extra_of, failed_since, lead_of}
+use Rattle.flash_moves.specs.Paces.{lost_since, move_steps_of}
 use Rattle.flash_log.specs.laws.Ending.{HasTaken, all_taken, caught_on, ended_pace, failed_stands, found_far}
 use Rattle.flash_log.specs.laws.Ending.{looked_anew, will_more, stepped_on_caught, stepped_stands}
 use Rattle.flash_log.specs.laws.Ending.{taken_more}
-use Rattle.flash_log.specs.laws.Lighting.{tries_faults}
-use Rattle.flash_log.specs.laws.Pacing.{paced_more}
+use Rattle.flash_moves.specs.laws.Lighting.{tries_faults}
+use Rattle.flash_moves.specs.laws.Pacing.{paced_more}
 use Rattle.flash_log.proofs.renewal.end_move.Goals as goal
 
 pub returns-in_err-find_pages-clause-stands : goal.returns-in_err-find_pages-clause-stands

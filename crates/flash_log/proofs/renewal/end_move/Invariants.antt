@@ -1,8 +1,8 @@
 use Rattle.std.proofs.Common.{◌≡◌, ◌≤◌, ◌+◌, ◌*◌, ℕ, true, false}
 use Rattle.flash_device.specs.FlashCalls.{KeepsPower}
 use Rattle.flash_device.specs.FlashLogs.{words_of}
-use Rattle.flash_log.specs.Paces.{IsCaughtUp, IsRoomy, failed_since}
-use Rattle.flash_log.specs.Places.{IsLog}
+use Rattle.flash_moves.specs.Paces.{IsCaughtUp, IsRoomy, failed_since}
+use Rattle.flash_moves.specs.Places.{IsLog}
 use Rattle.flash_log.specs.laws.Ending.{HasTaken}
 use Rattle.flash_log.proofs.renewal.end_move.Given as goal
 

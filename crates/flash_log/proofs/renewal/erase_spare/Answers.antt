@@ -6,9 +6,9 @@ use Rattle.flash_device.specs.FlashLogs.{base_in, words_of}
 use Rattle.flash_area.specs.Spares.{spare_in}
 use Rattle.flash_area.specs.laws.Copying.{area_free}
 use Rattle.flash_log.specs.laws.Renewing.{spare_erased}
-use Rattle.flash_log.specs.laws.Sparing.{index_same, spare_leaves, spare_stays}
-use Rattle.flash_log.specs.laws.Losing.{free_by_area}
-use Rattle.flash_log.specs.Paces.{KeepsFree, KeepsRoom}
+use Rattle.flash_moves.specs.laws.Sparing.{index_same, spare_leaves, spare_stays}
+use Rattle.flash_moves.specs.laws.Losing.{free_by_area}
+use Rattle.flash_moves.specs.Paces.{KeepsFree, KeepsRoom}
 use Rattle.flash_log.proofs.renewal.erase_spare.Given.{Over}
 use Rattle.flash_log.proofs.renewal.erase_spare.Goals.{After-erase_area}
 use Rattle.flash_log.proofs.renewal.erase_spare.Goals as goal

@@ -1,18 +1,18 @@
 use Rattle.std.proofs.Common.{◌≡◌, ◌≢◌, ◌≤◌, ◌+◌, ◌-◌, ◌∙◌, ℕ, true, refl, sym, ap, inl, subst, ⊎_elim, arith}
 use Rattle.std.proofs.lemmas.Bool.{cases_eq}
 use Rattle.flash_device.specs.declared.flash.TheConstants.{BLANK}
-use Rattle.flash_log.specs.declared.place.PageMap.{PageMap}
+use Rattle.flash_moves.specs.declared.place.PageMap.{PageMap}
 use Rattle.flash_device.specs.FlashBlocks.{area_size, steps_of}
 use Rattle.flash_device.specs.FlashCalls.{AreFilled}
 use Rattle.flash_device.specs.FlashLogs.{base_in}
-use Rattle.flash_log.specs.Paces.{KeepsPace, free_slots}
+use Rattle.flash_moves.specs.Paces.{KeepsPace, free_slots}
 use Rattle.flash_area.specs.HeldPages.{HavePages}
 use Rattle.flash_log.specs.Renewals.{AreClean, HasLastMark, HoldsOnlyPages}
 use Rattle.flash_area.specs.Spares.{spare_in}
 use Rattle.flash_log.specs.laws.Renewing.{home_held, last_same, only_pages, pace_renewed}
 use Rattle.flash_log.specs.laws.Ending.{freed_stands}
-use Rattle.flash_log.specs.laws.Lighting.{lights_faults, tries_faults}
-use Rattle.flash_log.specs.laws.Losing.{free_read, free_then, kept_slots, room_read}
+use Rattle.flash_moves.specs.laws.Lighting.{lights_faults, tries_faults}
+use Rattle.flash_moves.specs.laws.Losing.{free_read, free_then, kept_slots, room_read}
 use Rattle.flash_log.proofs.renewal.leave_area.Goals as goal
 
 pub returns-then-branch-clause-only : goal.returns-then-branch-clause-only

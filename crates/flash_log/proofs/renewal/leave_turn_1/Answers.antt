@@ -1,5 +1,5 @@
 use Rattle.std.proofs.Common.{sym, subst}
-use Rattle.flash_log.specs.declared.place.PageMap.{PageMap}
+use Rattle.flash_moves.specs.declared.place.PageMap.{PageMap}
 use Rattle.flash_device.specs.FlashLogs.{base_in}
 use Rattle.flash_area.specs.HeldPages.{HavePages}
 use Rattle.flash_log.specs.Renewals.{HasLastMark}

@@ -1,6 +1,6 @@
 use Rattle.std.proofs.Common.{refl}
-use Rattle.flash_log.specs.laws.Lighting.{tries_faults}
-use Rattle.flash_log.specs.laws.Losing.{free_then}
+use Rattle.flash_moves.specs.laws.Lighting.{tries_faults}
+use Rattle.flash_moves.specs.laws.Losing.{free_then}
 use Rattle.flash_log.proofs.renewal.move_pages.Goals as goal
 
 pub returns-in_err-make_room-clause-keeps_free : goal.returns-in_err-make_room-clause-keeps_free

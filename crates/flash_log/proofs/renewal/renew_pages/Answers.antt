@@ -1,8 +1,8 @@
 use Rattle.std.proofs.Common.{◌+◌, refl, arith}
-use Rattle.flash_log.specs.Paces.{HasFreeSlots, lead_of, lost_since}
+use Rattle.flash_moves.specs.Paces.{HasFreeSlots, lead_of, lost_since}
 use Rattle.flash_log.specs.laws.Ending.{will_more}
-use Rattle.flash_log.specs.laws.Lighting.{tries_faults}
-use Rattle.flash_log.specs.laws.Losing.{free_read, free_then}
+use Rattle.flash_moves.specs.laws.Lighting.{tries_faults}
+use Rattle.flash_moves.specs.laws.Losing.{free_read, free_then}
 use Rattle.flash_log.proofs.renewal.renew_pages.Goals as goal
 
 pub returns-clause-pace : goal.returns-clause-pace

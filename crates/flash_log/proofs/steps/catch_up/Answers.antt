@@ -1,15 +1,15 @@
 use Rattle.std.proofs.Common.{◌≡◌, ◌≤◌, ◌+◌, ◌-◌, ◌∙◌, ℕ, List, true, refl, sym, ap, subst, inr, arith}
 use Rattle.std.proofs.lemmas.Result.{on_ok_weaker}
-use Rattle.flash_log.specs.declared.place.PageMap.{PageMap}
+use Rattle.flash_moves.specs.declared.place.PageMap.{PageMap}
 use Rattle.flash_device.specs.FlashCalls.{FlashState}
 use Rattle.flash_device.specs.FlashLogs.{base_in, turn_of}
 use Rattle.flash_device.specs.PageTables.{AreFree}
-use Rattle.flash_log.specs.Paces.{IsInPace, KeepsPace, lost_since}
-use Rattle.flash_log.specs.Places.{FindsFree}
-use Rattle.flash_log.specs.laws.Lighting.{lights_once}
-use Rattle.flash_log.specs.laws.Losing.{before_found, none_copied, stands_in_pace}
+use Rattle.flash_moves.specs.Paces.{IsInPace, KeepsPace, lost_since}
+use Rattle.flash_moves.specs.Places.{FindsFree}
+use Rattle.flash_moves.specs.laws.Lighting.{lights_once}
+use Rattle.flash_moves.specs.laws.Losing.{before_found, none_copied, stands_in_pace}
 use Rattle.flash_log.specs.laws.TakingTurns.{found_next, lost_next, still_next, was_lost}
-use Rattle.flash_log.specs.laws.Pacing.{caught_more, free_of, from_more, lost_so, place_in_pace, stands_more}
+use Rattle.flash_moves.specs.laws.Pacing.{caught_more, free_of, from_more, lost_so, place_in_pace, stands_more}
 use Rattle.flash_log.proofs.steps.catch_up.Goals as goal
 
 pub returns-clause-next : goal.returns-clause-next

@@ -3,11 +3,11 @@ use Rattle.std.proofs.Common.{false, true≢false}
 use Rattle.std.proofs.lemmas.Bool.{cases_lt}
 use Rattle.flash_device.specs.FlashLogs.{base_in, turn_of, words_of}
 use Rattle.flash_device.specs.PageTables.{IsPageTable, AreFree, IsFirstFreeSlot}
-use Rattle.flash_log.specs.Paces.{IsInPaceFrom, KeepsPace, extra_of, lead_of}
-use Rattle.flash_log.specs.Rings.{IsRing}
+use Rattle.flash_moves.specs.Paces.{IsInPaceFrom, KeepsPace, extra_of, lead_of}
+use Rattle.flash_moves.specs.Rings.{IsRing}
 use Rattle.flash_area.specs.Spares.{IsSpare, KeepsSteps}
 use Rattle.flash_device.specs.laws.Indexing.{free_later}
-use Rattle.flash_log.specs.laws.Pacing.{free_known, fresh_is, fresh_stands, paced_found, steps_most}
+use Rattle.flash_moves.specs.laws.Pacing.{free_known, fresh_is, fresh_stands, paced_found, steps_most}
 use Rattle.flash_log.proofs.steps.find_pages.Goals as goal
 
 pub returns-clause-log : goal.returns-clause-log

@@ -2,13 +2,13 @@ use Rattle.std.proofs.Common.{◌≡◌, ℕ, List, refl, sym, subst, ◌∙◌,
 use Rattle.flash_device.specs.PageTables.{IsPageTable}
 use Rattle.flash_area.specs.laws.Copying.{SameArea, area_found}
 use Rattle.flash_device.specs.FlashLogs.{words_of}
-use Rattle.flash_log.specs.laws.Moving.{base_other, witness_area}
-use Rattle.flash_log.specs.laws.Sparing.{spare_none}
+use Rattle.flash_moves.specs.laws.Moving.{base_other, witness_area}
+use Rattle.flash_moves.specs.laws.Sparing.{spare_none}
 use Rattle.flash_device.specs.FlashBlocks.{area_size}
-use Rattle.flash_log.specs.Paces.{KeepsFree, KeepsRoom}
+use Rattle.flash_moves.specs.Paces.{KeepsFree, KeepsRoom}
 use Rattle.flash_device.specs.FlashCalls.{FlashState}
-use Rattle.flash_log.specs.laws.Lighting.{tries_faults}
-use Rattle.flash_log.specs.laws.Losing.{free_then, witness_free}
+use Rattle.flash_moves.specs.laws.Lighting.{tries_faults}
+use Rattle.flash_moves.specs.laws.Losing.{free_then, witness_free}
 use Rattle.flash_log.proofs.steps.make_room.Given.{Over}
 use Rattle.flash_log.proofs.steps.make_room.Goals.{After-move_to_a}
 use Rattle.flash_log.proofs.steps.make_room.Goals as goal

@@ -1,21 +1,21 @@
 use Rattle.std.proofs.Common.{◌≡◌, ◌<◌, ◌≤◌, ◌+◌, ◌∙◌, ℕ, refl, true, sym, ap, subst, inl, inr, ⊎_elim, arith}
 use Rattle.std.proofs.lemmas.Bool.{cases_lt}
-use Rattle.flash_log.specs.laws.Lighting.{tries_faults}
-use Rattle.flash_log.specs.declared.place.PageMap.{PageMap}
+use Rattle.flash_moves.specs.laws.Lighting.{tries_faults}
+use Rattle.flash_moves.specs.declared.place.PageMap.{PageMap}
 use Rattle.flash_device.specs.FlashCalls.{FlashState}
 use Rattle.flash_device.specs.FlashLogs.{base_in}
 use Rattle.flash_device.specs.PageTables.{AreFree}
-use Rattle.flash_log.specs.Paces.{IsBeforeMove, IsBrief, IsCaughtUp, WillKeepPace}
-use Rattle.flash_log.specs.Paces.{failed_since, free_slots, is_fresh, lost_since}
-use Rattle.flash_log.specs.laws.Pacing.{caught_more, failed_not_ok, lost_so, none_due, ready_brief, ready_caught}
-use Rattle.flash_log.specs.laws.Pacing.{ready_found, ready_in_pace, ready_moves, ready_stands, ready_stays}
-use Rattle.flash_log.specs.laws.Pacing.{ready_stepped, ready_stood, stepped_fresh, stepped_more}
-use Rattle.flash_log.specs.laws.Losing.{ready_lost, step_lost}
+use Rattle.flash_moves.specs.Paces.{IsBeforeMove, IsBrief, IsCaughtUp, WillKeepPace}
+use Rattle.flash_moves.specs.Paces.{failed_since, free_slots, is_fresh, lost_since}
+use Rattle.flash_moves.specs.laws.Pacing.{caught_more, failed_not_ok, lost_so, none_due, ready_brief, ready_caught}
+use Rattle.flash_moves.specs.laws.Pacing.{ready_found, ready_in_pace, ready_moves, ready_stands, ready_stays}
+use Rattle.flash_moves.specs.laws.Pacing.{ready_stepped, ready_stood, stepped_fresh, stepped_more}
+use Rattle.flash_moves.specs.laws.Losing.{ready_lost, step_lost}
 use Rattle.flash_log.specs.laws.TakingTurns.{next_is, still_next}
 use Rattle.flash_log.proofs.steps.prepare.Given.{Over}
 use Rattle.flash_log.specs.SlotsInTurn.{FindsNext, WillTake}
-use Rattle.flash_log.specs.Places.{log_value}
-use Rattle.flash_log.specs.Paces.{CopiesNoPageAt, HasNoStepDue, HasStepped, IsInPace, IsRoomy, StandsSo, lead_of}
+use Rattle.flash_moves.specs.Places.{log_value}
+use Rattle.flash_moves.specs.Paces.{CopiesNoPageAt, HasNoStepDue, HasStepped, IsInPace, IsRoomy, StandsSo, lead_of}
 use Rattle.flash_log.proofs.steps.prepare.Goals.{After-make_room}
 use Rattle.flash_log.proofs.steps.prepare.Goals as goal
 

@@ -1,7 +1,7 @@
 use Rattle.std.proofs.Common.{ℕ, subst}
 use Rattle.flash_area.specs.Spares.{KeepsSteps}
 use Rattle.flash_device.specs.FlashLogs.{words_of}
-use Rattle.flash_log.specs.laws.Sparing.{spare_none}
+use Rattle.flash_moves.specs.laws.Sparing.{spare_none}
 use Rattle.flash_log.proofs.steps.progress_at.Goals as goal
 
 pub returns-then-SLOTS-next-clause-spare : goal.returns-then-SLOTS-next-clause-spare

@@ -1,6 +1,6 @@
 use Rattle.std.proofs.Common.{◌/◌, ◌%◌, ℕ, List, slice_index, sym, ap, inl, inr, ◌∙◌}
 use Rattle.flash_device.specs.FlashLogs.{base_in, page_word, words_of}
-use Rattle.flash_log.specs.laws.Pacing.{fresh_is}
+use Rattle.flash_moves.specs.laws.Pacing.{fresh_is}
 use Rattle.flash_area.specs.laws.Words.{index-words}
 use Rattle.flash_log.proofs.steps.read_at.Goals as goal
 

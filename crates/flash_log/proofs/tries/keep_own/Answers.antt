@@ -1,6 +1,6 @@
 use Rattle.std.proofs.Common.{arith}
-use Rattle.flash_log.specs.laws.Pacing.{anew_paced}
-use Rattle.flash_log.specs.laws.Sparing.{log_anew}
+use Rattle.flash_moves.specs.laws.Pacing.{anew_paced}
+use Rattle.flash_moves.specs.laws.Sparing.{log_anew}
 use Rattle.flash_log.proofs.tries.keep_own.Goals as goal
 
 pub returns-clause-log : goal.returns-clause-log

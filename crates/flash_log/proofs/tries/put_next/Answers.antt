@@ -2,12 +2,12 @@ use Rattle.std.proofs.Common.{◌≡◌, ◌+◌, ◌-◌, ◌*◌, ℕ, refl, s
 use Rattle.flash_device.specs.FlashCalls.{SameElsewhere}
 use Rattle.flash_device.specs.FlashLogs.{base_in, find, slot_of}
 use Rattle.flash_device.specs.PageTables.{IsPageTable, AreFree}
-use Rattle.flash_log.specs.Paces.{HasStepped, IsInPaceFrom}
-use Rattle.flash_log.specs.laws.Catching.{run_in_pace, run_spare}
-use Rattle.flash_log.specs.laws.Pacing.{paced_put, stepped_paced}
+use Rattle.flash_moves.specs.Paces.{HasStepped, IsInPaceFrom}
+use Rattle.flash_moves.specs.laws.Catching.{run_in_pace, run_spare}
+use Rattle.flash_moves.specs.laws.Pacing.{paced_put, stepped_paced}
 use Rattle.flash_log.specs.laws.TakingTurns.{found_still, found_takes, next_behind, put_in_area, put_takes}
 use Rattle.flash_log.specs.laws.TakingTurns.{tried_takes}
-use Rattle.flash_log.specs.laws.Turns.{turn_same, ring_same}
+use Rattle.flash_moves.specs.laws.Turns.{turn_same, ring_same}
 use Rattle.flash_log.proofs.tries.put_next.Given.{Over}
 use Rattle.flash_log.proofs.tries.put_next.Goals.{After-write_run}
 use Rattle.flash_log.proofs.tries.put_next.Goals as goal

@@ -4,11 +4,11 @@ use Rattle.nvm_board.specs.declared.board.DeviceErr.{DeviceErr}
 use Rattle.flash_device.specs.FlashCalls.{Tries}
 use Rattle.flash_device.specs.FlashLogs.{words_of}
 use Rattle.flash_area.specs.laws.Words.{length-words}
-use Rattle.flash_log.specs.Places.{log_value}
-use Rattle.flash_log.specs.laws.Lighting.{tries_faults}
+use Rattle.flash_moves.specs.Places.{log_value}
+use Rattle.flash_moves.specs.laws.Lighting.{tries_faults}
 use Rattle.flash_log.specs.laws.Retrying.{tries_behind}
 use Rattle.flash_log.specs.laws.TakingTurns.{takes_more, takes_none, takes_then}
-use Rattle.flash_log.specs.laws.Writing.{done_again, whole_again}
+use Rattle.flash_moves.specs.laws.Writing.{done_again, whole_again}
 use Rattle.flash_log.proofs.tries.try_again.Goals as goal
 
 pub loop-init : goal.loop-init

@@ -2,8 +2,8 @@ use Rattle.std.proofs.Common.{◌≡◌, ◌⊎◌, ◌≤◌, ◌+◌, ◌-◌,
 use Rattle.nvm_board.specs.History.{written}
 use Rattle.flash_device.specs.FlashCalls.{KeepsPower}
 use Rattle.flash_device.specs.FlashLogs.{words_of}
-use Rattle.flash_log.specs.Paces.{WillKeepPace, extra_of, lead_of}
-use Rattle.flash_log.specs.Places.{IsLog, log_value}
+use Rattle.flash_moves.specs.Paces.{WillKeepPace, extra_of, lead_of}
+use Rattle.flash_moves.specs.Places.{IsLog, log_value}
 use Rattle.flash_log.specs.SlotsInTurn.{TakesInTurn, WillTake}
 use Rattle.flash_log.proofs.tries.try_again.Given as goal
 

@@ -4,11 +4,11 @@ use Rattle.nvm_board.specs.History.{written}
 use Rattle.flash_device.specs.FlashCalls.{Tries}
 use Rattle.flash_device.specs.FlashLogs.{base_in, turn_of, words_of}
 use Rattle.flash_device.specs.PageTables.{AreFree}
-use Rattle.flash_log.specs.Paces.{HasStepped, KeepsPace, OwnsOlder, WillKeepPace, extra_of, move_steps_of, steps_left}
-use Rattle.flash_log.specs.Places.{IsPlaceOf, log_value}
+use Rattle.flash_moves.specs.Paces.{HasStepped, KeepsPace, OwnsOlder, WillKeepPace, extra_of, move_steps_of, steps_left}
+use Rattle.flash_moves.specs.Places.{IsPlaceOf, log_value}
 use Rattle.flash_log.specs.SlotsInTurn.{TakesInTurn, WillTake}
-use Rattle.flash_log.specs.laws.Lighting.{lights_faults, lights_once}
-use Rattle.flash_log.specs.laws.Pacing.{steps_most}
+use Rattle.flash_moves.specs.laws.Lighting.{lights_faults, lights_once}
+use Rattle.flash_moves.specs.laws.Pacing.{steps_most}
 use Rattle.flash_log.specs.laws.Retrying.{lights_tries, tries_behind}
 use Rattle.flash_log.specs.laws.TakingTurns.{finds_again, finds_own, finds_takes, finds_then, lost_next, was_lost}
 use Rattle.flash_log.proofs.tries.write_again.Given.{Over}

@@ -4,14 +4,14 @@ use Rattle.std.proofs.lemmas.Result.{on_ok_weaker}
 use Rattle.flash_device.specs.FlashCalls.{KeepsPower}
 use Rattle.flash_device.specs.FlashLogs.{words_of}
 use Rattle.flash_area.specs.laws.Words.{length-words}
-use Rattle.flash_log.specs.Paces.{IsRoomy, WillKeepPace, failed_since, lost_since}
-use Rattle.flash_log.specs.Places.{log_value}
+use Rattle.flash_moves.specs.Paces.{IsRoomy, WillKeepPace, failed_since, lost_since}
+use Rattle.flash_moves.specs.Places.{log_value}
 use Rattle.flash_log.specs.laws.Ending.{will_more}
-use Rattle.flash_log.specs.laws.Lighting.{tries_faults}
-use Rattle.flash_log.specs.laws.Pacing.{found_so}
+use Rattle.flash_moves.specs.laws.Lighting.{tries_faults}
+use Rattle.flash_moves.specs.laws.Pacing.{found_so}
 use Rattle.flash_log.specs.laws.Retrying.{holds_ok, ok_holds, tries_behind}
 use Rattle.flash_log.specs.laws.TakingTurns.{takes_more, takes_then}
-use Rattle.flash_log.specs.laws.Writing.{done_again, whole_again}
+use Rattle.flash_moves.specs.laws.Writing.{done_again, whole_again}
 use Rattle.flash_log.proofs.tries.write_at.Given.{Over}
 use Rattle.flash_log.proofs.tries.write_at.Goals.{After-try_again}
 use Rattle.flash_log.proofs.tries.write_at.Goals as goal

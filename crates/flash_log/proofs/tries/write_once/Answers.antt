@@ -6,13 +6,13 @@ use Rattle.flash_device.specs.FlashBlocks.{steps_of}
 use Rattle.flash_device.specs.FlashLogs.{base_in, words_of}
 use Rattle.flash_device.specs.PageTables.{AreFree}
 use Rattle.flash_area.specs.Spares.{copies_most}
-use Rattle.flash_log.specs.Places.{log_value}
+use Rattle.flash_moves.specs.Places.{log_value}
 use Rattle.flash_log.specs.SlotsInTurn.{TakesInTurn}
-use Rattle.flash_log.specs.Paces.{HasStepped, IsBrief, WillKeepPace, extra_slots}
-use Rattle.flash_log.specs.Paces.{failed_since, free_slots, lead_of, lost_since}
-use Rattle.flash_log.specs.laws.Lighting.{lights_faults, lights_once}
-use Rattle.flash_log.specs.laws.Pacing.{failed_not_ok, found_so, free_known, free_of, short_then, stands_more}
-use Rattle.flash_log.specs.laws.Pacing.{stepped_more, stepped_paced}
+use Rattle.flash_moves.specs.Paces.{HasStepped, IsBrief, WillKeepPace, extra_slots}
+use Rattle.flash_moves.specs.Paces.{failed_since, free_slots, lead_of, lost_since}
+use Rattle.flash_moves.specs.laws.Lighting.{lights_faults, lights_once}
+use Rattle.flash_moves.specs.laws.Pacing.{failed_not_ok, found_so, free_known, free_of, short_then, stands_more}
+use Rattle.flash_moves.specs.laws.Pacing.{stepped_more, stepped_paced}
 use Rattle.flash_log.specs.laws.Retrying.{holds_ok, lights_tries, ok_holds, tries_behind}
 use Rattle.flash_log.specs.laws.TakingTurns.{far_stepped, finds_takes, finds_then, next_is, put_once, takes_pace}
 use Rattle.flash_log.proofs.tries.write_once.Given.{Over}

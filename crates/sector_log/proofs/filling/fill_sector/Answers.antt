@@ -8,8 +8,8 @@ use Rattle.flash_device.specs.PageTables.{AreFree, IsPageTable}
 use Rattle.flash_device.specs.laws.Marks.{elsewhere_wider}
 use Rattle.flash_area.specs.Spares.{spare_in, spare_sector}
 use Rattle.flash_area.specs.laws.Copying.{SameArea}
-use Rattle.flash_log.specs.laws.Moving.{Stays}
-use Rattle.flash_log.specs.laws.Sparing.{index_same, spare_leaves, spare_stays}
+use Rattle.flash_moves.specs.laws.Moving.{Stays}
+use Rattle.flash_moves.specs.laws.Sparing.{index_same, spare_leaves, spare_stays}
 use Rattle.sector_log.specs.SectorSpares.{HasSectorCopies, HasStepCopies, spare_slot, spare_slots}
 use Rattle.sector_log.specs.declared.filling.TheConstants.{STEP_SLOTS}
 use Rattle.sector_log.specs.laws.Filling.{home_same, in_slots, slot_rises, step_free, step_widens, turn_stays}

@@ -2,7 +2,7 @@ use Rattle.std.proofs.Common.{◌≡◌, ◌<◌, ◌+◌, ℕ, false, sym, ap, 
 use Rattle.flash_device.specs.FlashBlocks.{steps_of}
 use Rattle.flash_device.specs.FlashLogs.{base_in, words_of}
 use Rattle.flash_area.specs.Spares.{HasCopies, spare_in}
-use Rattle.flash_log.specs.Paces.{HasMoved}
+use Rattle.flash_moves.specs.Paces.{HasMoved}
 use Rattle.sector_log.specs.SectorPlaces.{IsSectorLog}
 use Rattle.sector_log.specs.SectorSpares.{HasRoomForSteps, sector_lead, spare_slot}
 use Rattle.sector_log.specs.laws.Keeping.{by_both, moved_copies, moved_place, moved_step}

@@ -1,5 +1,5 @@
 use Rattle.std.proofs.Common.{sym, true≢false, ◌∙◌}
-use Rattle.flash_log.specs.laws.Pacing.{fresh_is}
+use Rattle.flash_moves.specs.laws.Pacing.{fresh_is}
 use Rattle.sector_log.proofs.steps.find_pages.Goals as goal
 
 pub returns-then-place-clause-found : goal.returns-then-place-clause-found

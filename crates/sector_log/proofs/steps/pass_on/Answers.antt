@@ -3,8 +3,8 @@ use Rattle.flash_device.specs.FlashBlocks.{area_size}
 use Rattle.flash_device.specs.FlashLogs.{base_in, turn_of}
 use Rattle.flash_device.specs.PageTables.{AreFree, IsPageTable}
 use Rattle.flash_area.specs.laws.Copying.{SameArea, area_free}
-use Rattle.flash_log.specs.laws.Moving.{witness_area}
-use Rattle.flash_log.specs.laws.Sparing.{index_same}
+use Rattle.flash_moves.specs.laws.Moving.{witness_area}
+use Rattle.flash_moves.specs.laws.Sparing.{index_same}
 use Rattle.sector_log.specs.SectorSpares.{sector_steps}
 use Rattle.sector_log.specs.laws.Keeping.{in_step_from}
 use Rattle.sector_log.specs.laws.Stepping.{none_begun}

@@ -4,7 +4,7 @@ use Rattle.nvm_board.specs.declared.board.DeviceErr.{DeviceErr}
 use Rattle.flash_device.specs.FlashCalls.{Tries}
 use Rattle.flash_device.specs.FlashLogs.{words_of}
 use Rattle.flash_area.specs.laws.Words.{length-words}
-use Rattle.flash_log.specs.laws.Writing.{done_again, whole_again}
+use Rattle.flash_moves.specs.laws.Writing.{done_again, whole_again}
 use Rattle.sector_log.specs.laws.Trying.{by_bool, free_unknown, tries_after, tries_fit, tries_most}
 use Rattle.sector_log.proofs.steps.write_at.Goals as goal
 

@@ -3,7 +3,7 @@ use Rattle.nvm_board.specs.History.{written}
 use Rattle.flash_device.specs.FlashBlocks.{steps_of}
 use Rattle.flash_device.specs.FlashCalls.{KeepsPower}
 use Rattle.flash_device.specs.FlashLogs.{words_of}
-use Rattle.flash_log.specs.Paces.{free_slots}
+use Rattle.flash_moves.specs.Paces.{free_slots}
 use Rattle.sector_log.specs.SectorPlaces.{IsSectorLog, StaysInStep}
 use Rattle.sector_log.specs.SectorSpares.{sector_lead, spare_slot}
 use Rattle.sector_log.proofs.steps.write_at.Given as goal

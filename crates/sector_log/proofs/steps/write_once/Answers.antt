@@ -3,7 +3,7 @@ use Rattle.flash_device.specs.FlashCalls.{SameElsewhere}
 use Rattle.flash_device.specs.FlashLogs.{base_in, find, slot_of, turn_of}
 use Rattle.flash_device.specs.PageTables.{AreFree, IsPageTable}
 use Rattle.flash_log.specs.laws.TakingTurns.{put_in_area}
-use Rattle.flash_log.specs.laws.Turns.{turn_same}
+use Rattle.flash_moves.specs.laws.Turns.{turn_same}
 use Rattle.sector_log.specs.SectorPlaces.{IsSectorLog}
 use Rattle.sector_log.specs.laws.Keeping.{run_known, run_unknown}
 use Rattle.sector_log.proofs.steps.write_once.Given.{Over}

@@ -1,7 +1,7 @@
 use Rattle.std.proofs.Common.{◌+◌, arith}
 use Rattle.flash_log.specs.laws.Ending.{log_stands_more}
-use Rattle.flash_log.specs.laws.Losing.{free_in_pace}
-use Rattle.flash_log.specs.Paces.{lost_since}
+use Rattle.flash_moves.specs.laws.Losing.{free_in_pace}
+use Rattle.flash_moves.specs.Paces.{lost_since}
 use Rattle.flash_board.proofs.flash_board.FlashBoard.renew.Goals as goal
 
 pub returns-then-self-clause-lost : goal.returns-then-self-clause-lost

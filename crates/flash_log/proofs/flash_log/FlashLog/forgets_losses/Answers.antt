@@ -1,6 +1,6 @@
 use Rattle.std.proofs.Common.{◌≡◌, ◌<◌, true, subst}
-use Rattle.flash_log.specs.Paces.{LogState, lead_of}
-use Rattle.flash_log.specs.laws.Pacing.{none_given}
+use Rattle.flash_moves.specs.Paces.{LogState, lead_of}
+use Rattle.flash_moves.specs.laws.Pacing.{none_given}
 use Rattle.flash_log.proofs.flash_log.FlashLog.forgets_losses.Goals as goal
 
 pub returns : goal.returns

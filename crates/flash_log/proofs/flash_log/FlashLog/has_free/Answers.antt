@@ -1,10 +1,10 @@
 use Rattle.std.proofs.Common.{◌≡◌, ◌<◌, ◌-◌, ℕ, true, subst, ap, arith}
 use Rattle.flash_device.specs.FlashLogs.{base_in, turn_of}
 use Rattle.flash_device.specs.PageTables.{AreFree}
-use Rattle.flash_log.specs.Paces.{LogState, extra_slots, free_slots}
-use Rattle.flash_log.specs.Places.{log_value}
+use Rattle.flash_moves.specs.Paces.{LogState, extra_slots, free_slots}
+use Rattle.flash_moves.specs.Places.{log_value}
 use Rattle.flash_log.specs.SlotsInTurn.{WillTake}
-use Rattle.flash_log.specs.laws.Pacing.{free_known, free_of, paced_is}
+use Rattle.flash_moves.specs.laws.Pacing.{free_known, free_of, paced_is}
 use Rattle.flash_log.specs.laws.TakingTurns.{found_takes}
 use Rattle.flash_log.proofs.flash_log.FlashLog.has_free.Goals as goal
 

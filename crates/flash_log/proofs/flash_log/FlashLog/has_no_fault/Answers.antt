@@ -1,5 +1,5 @@
 use Rattle.std.proofs.Common.{sym, ap, ◌∙◌}
-use Rattle.flash_log.specs.Paces.{LogState}
+use Rattle.flash_moves.specs.Paces.{LogState}
 use Rattle.flash_log.proofs.flash_log.FlashLog.has_no_fault.Goals as goal
 
 pub returns : goal.returns

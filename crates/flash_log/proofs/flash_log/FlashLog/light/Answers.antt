@@ -1,8 +1,8 @@
 use Rattle.std.proofs.Common.{ℕ, List, true, false, refl, sym, ap, subst, inr, ◌∙◌, arith}
 use Rattle.flash_device.specs.FlashCalls.{FlashState}
-use Rattle.flash_log.specs.Paces.{IsInPace, IsInPaceFrom, LogState, StandsInPace, is_paced}
-use Rattle.flash_log.specs.Places.{new_log}
-use Rattle.flash_log.specs.laws.Pacing.{in_pace_by}
+use Rattle.flash_moves.specs.Paces.{IsInPace, IsInPaceFrom, LogState, StandsInPace, is_paced}
+use Rattle.flash_moves.specs.Places.{new_log}
+use Rattle.flash_moves.specs.laws.Pacing.{in_pace_by}
 use Rattle.flash_log.proofs.flash_log.FlashLog.light.Goals as goal
 
 pub returns-clause-log : goal.returns-clause-log

@@ -1,10 +1,10 @@
 use Rattle.std.proofs.Common.{◌≡◌, ◌⊎◌, ◌<◌, ◌≤◌, ◌∙◌, ℕ, true, false, ap, subst, arith}
 use Rattle.std.proofs.lemmas.Result.{on_ok_weaker}
-use Rattle.flash_log.specs.declared.place.PageMap.{PageMap}
-use Rattle.flash_log.specs.Places.{FindsFree}
-use Rattle.flash_log.specs.Paces.{IsInPaceFrom, KeepsPace, LogState, StandsInPace, WillKeepPace, free_slots, is_fresh}
-use Rattle.flash_log.specs.Paces.{extra_of, extra_slots, is_paced, lead_of}
-use Rattle.flash_log.specs.laws.Pacing.{free_same, fresh_is, is_paced_by, paced_is, stands_view, view_stands}
+use Rattle.flash_moves.specs.declared.place.PageMap.{PageMap}
+use Rattle.flash_moves.specs.Places.{FindsFree}
+use Rattle.flash_moves.specs.Paces.{IsInPaceFrom, KeepsPace, LogState, StandsInPace, WillKeepPace, free_slots, is_fresh}
+use Rattle.flash_moves.specs.Paces.{extra_of, extra_slots, is_paced, lead_of}
+use Rattle.flash_moves.specs.laws.Pacing.{free_same, fresh_is, is_paced_by, paced_is, stands_view, view_stands}
 use Rattle.flash_log.proofs.flash_log.FlashLog.read.Goals as goal
 
 pub returns-clause-paced : goal.returns-clause-paced

@@ -1,9 +1,9 @@
 use Rattle.std.proofs.Common.{◌≡◌, ◌⊎◌, ◌≤◌, ◌+◌, ◌-◌, true, false, ap, subst, arith}
-use Rattle.flash_log.specs.Paces.{HasFreeSlots, IsInPace, IsInPaceFrom, IsRoomy, LogState, RenewsOnly, StandsInPace}
-use Rattle.flash_log.specs.Paces.{extra_slots, failed_since, is_paced, lead_of, lost_since}
-use Rattle.flash_log.specs.Places.{state_of}
-use Rattle.flash_log.specs.laws.Losing.{free_in_pace, kept_slots}
-use Rattle.flash_log.specs.laws.Pacing.{is_paced_by, stands_view, view_stands}
+use Rattle.flash_moves.specs.Paces.{HasFreeSlots, IsInPace, IsInPaceFrom, IsRoomy, LogState, RenewsOnly, StandsInPace}
+use Rattle.flash_moves.specs.Paces.{extra_slots, failed_since, is_paced, lead_of, lost_since}
+use Rattle.flash_moves.specs.Places.{state_of}
+use Rattle.flash_moves.specs.laws.Losing.{free_in_pace, kept_slots}
+use Rattle.flash_moves.specs.laws.Pacing.{is_paced_by, stands_view, view_stands}
 use Rattle.flash_log.proofs.flash_log.FlashLog.renew.Goals as goal
 
 pub returns-clause-paced : goal.returns-clause-paced

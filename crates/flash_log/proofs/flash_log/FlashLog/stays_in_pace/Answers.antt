@@ -1,6 +1,6 @@
 use Rattle.std.proofs.Common.{◌≡◌, true, false, subst}
-use Rattle.flash_log.specs.Paces.{IsInPace, LogState, StandsInPace}
-use Rattle.flash_log.specs.laws.Pacing.{fresh_is, in_pace_by}
+use Rattle.flash_moves.specs.Paces.{IsInPace, LogState, StandsInPace}
+use Rattle.flash_moves.specs.laws.Pacing.{fresh_is, in_pace_by}
 use Rattle.flash_log.proofs.flash_log.FlashLog.stays_in_pace.Goals as goal
 
 pub returns-clause-pace : goal.returns-clause-pace

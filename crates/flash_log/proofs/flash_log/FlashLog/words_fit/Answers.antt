@@ -2,8 +2,8 @@ use Rattle.std.proofs.Common.{length, sym, ap, subst, ◌∙◌}
 use Rattle.nvm_board.specs.Facts.{AreWords, IsMemory}
 use Rattle.nvm_board.specs.laws.Sizes.{memory_of_pages}
 use Rattle.flash_device.specs.FlashLogs.{words_of}
-use Rattle.flash_log.specs.Paces.{LogState}
-use Rattle.flash_log.specs.laws.Lighting.{words_fit}
+use Rattle.flash_moves.specs.Paces.{LogState}
+use Rattle.flash_moves.specs.laws.Lighting.{words_fit}
 use Rattle.flash_area.specs.laws.Words.{length-words}
 use Rattle.flash_log.proofs.flash_log.FlashLog.words_fit.Goals as goal
 

@@ -1,12 +1,12 @@
 use Rattle.std.proofs.Common.{◌≡◌, ◌⊎◌, ◌<◌, ◌≤◌, ◌+◌, ◌-◌, ℕ, true, false, subst, arith}
 use Rattle.std.proofs.lemmas.Result.{on_ok_weaker}
-use Rattle.flash_log.specs.Paces.{IsBeforeMove, IsInPace, IsInPaceFrom, IsRoomy, KeepsPace, LogState, Pauses}
-use Rattle.flash_log.specs.Paces.{RegainsSlots, StandsInPace, TakesSlot, WillKeepPace}
-use Rattle.flash_log.specs.Paces.{extra_slots, failed_since, free_slots, is_paced, lead_of, lost_since}
-use Rattle.flash_log.specs.Places.{FindsFree, log_value, state_of}
+use Rattle.flash_moves.specs.Paces.{IsBeforeMove, IsInPace, IsInPaceFrom, IsRoomy, KeepsPace, LogState, Pauses}
+use Rattle.flash_moves.specs.Paces.{RegainsSlots, StandsInPace, TakesSlot, WillKeepPace}
+use Rattle.flash_moves.specs.Paces.{extra_slots, failed_since, free_slots, is_paced, lead_of, lost_since}
+use Rattle.flash_moves.specs.Places.{FindsFree, log_value, state_of}
 use Rattle.flash_log.specs.SlotsInTurn.{TakesInTurn, WillTake}
-use Rattle.flash_log.specs.laws.Pacing.{paced_is, pauses_view, stands_view, takes_view, view_stands}
-use Rattle.flash_log.specs.declared.ahead.TheConstants.{TRIES}
+use Rattle.flash_moves.specs.laws.Pacing.{paced_is, pauses_view, stands_view, takes_view, view_stands}
+use Rattle.flash_moves.specs.declared.ahead.TheConstants.{TRIES}
 use Rattle.flash_log.specs.laws.Retrying.{tries_view}
 use Rattle.flash_device.specs.FlashCalls.{Tries}
 use Rattle.flash_log.proofs.flash_log.FlashLog.write.Goals as goal

@@ -1,0 +1,4 @@
+pub mod Paces
+pub mod Places
+pub mod Rings
+pub mod laws
