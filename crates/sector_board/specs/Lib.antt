@@ -1,2 +1,3 @@
 pub mod SectorFacts
+pub mod SectorFollowers
 pub mod laws

@@ -6,7 +6,7 @@ ghost use Rattle.nvm_board.specs.declared.board.TheConstants.{SECRETS, COUNT_END
 ghost use Rattle.nvm_board.specs.Facts.{AreWords, IsMemory};
 
 use flash_board::{are_equal, has_ended};
-use flash_device::FlashSocket;
+use flash_device::{CutFlash, FlashSocket, FollowedFlash};
 use nvm_board::{Board, COUNT_END, DeviceErr, SECRETS, Socket, WornOut};
 use sector_log::{SectorFlash, SectorLog};
 
@@ -338,5 +338,70 @@ impl<F: FlashSocket + SectorFlash> Socket for SectorBoard<F> {
     {
         self.log.power_off();
         self.dark = true;
+    }
+}
+
+impl<F: CutFlash + SectorFlash> SectorBoard<F> {
+    ghost use Rattle.sector_board.specs.SectorFacts.{sector_facts, sector_state};
+
+    /// Returns true if power is off.
+    pub fn is_dark(&self) -> bool
+        ensures { result ≡ (sector_facts self.now).dark }
+    {
+        self.dark
+    }
+
+    /// Returns the number of writes that were counted.
+    pub fn write_count(&self) -> u64
+        ensures { result ≡ (sector_facts self.now).writes }
+    {
+        self.writes
+    }
+
+    /// Sets program or erase `k` of the flash from now on, counted from 1, to lose power.
+    pub fn set_cut(&mut self, k: u32)
+        requires { 1 ≤ k }
+        ensures facts { sector_facts self.new ≡ record (sector_facts self.old) { due = 1 } }
+        ensures log { sector_state self.new
+            ≡ record (sector_state self.old) { flash = record (sector_state self.old).flash { due = 1 } } }
+    {
+        self.log.set_cut(k);
+    }
+
+    /// Takes back the power loss that is set, if there is one.
+    pub fn clear_cut(&mut self)
+        ensures facts { sector_facts self.new ≡ record (sector_facts self.old) { due = 0 } }
+        ensures log { sector_state self.new
+            ≡ record (sector_state self.old) { flash = record (sector_state self.old).flash { due = 0 } } }
+    {
+        self.log.clear_cut();
+    }
+
+    /// Loses power behind a write, which stays whole.
+    pub fn lose_power(&mut self)
+        requires { (sector_facts self.old).dark ≡ false }
+        ensures facts { sector_facts self.new
+            ≡ record (sector_facts self.old) { dark = true; cuts = (sector_facts self.old).cuts + 1 } }
+        ensures log { sector_state self.new ≡ sector_state self.old }
+    {
+        self.go_dark();
+    }
+
+    /// Proves that the board counted no fault.
+    pub fn has_no_fault(&self)
+        ensures { (sector_facts self.now).faults ≡ 0 }
+    {
+        self.log.has_no_fault();
+    }
+}
+
+impl<F: FollowedFlash + SectorFlash> SectorBoard<F> {
+    ghost use Rattle.sector_board.specs.SectorFollowers.{sector_board_is_kept};
+
+    /// Returns true if the follower of the flash has all its operations, or if there was never one.
+    pub fn is_kept(&self) -> bool
+        ensures { result ≡ sector_board_is_kept self.now }
+    {
+        self.log.is_kept()
     }
 }

@@ -11,7 +11,7 @@ use crate::opening::{SectorFault, find_log, new_place};
 use crate::renewing::renew_at;
 use crate::sector_flash::SectorFlash;
 use crate::steps::{read_at, write_at};
-use flash_device::FlashSocket;
+use flash_device::{CutFlash, FlashSocket, FollowedFlash};
 use flash_moves::PageMap;
 use nvm_board::DeviceErr;
 use std::marker::Model;
@@ -202,5 +202,38 @@ impl<F: FlashSocket + SectorFlash> SectorLog<F> {
         ensures { self.new ≡ record self.old { flash = record self.old.flash { dark = true } } }
     {
         self.flash.power_off();
+    }
+}
+
+impl<F: CutFlash + SectorFlash> SectorLog<F> {
+    /// Sets program or erase `k` of the flash from now on, counted from 1, to lose power.
+    pub fn set_cut(&mut self, k: u32)
+        requires { 1 ≤ k }
+        ensures { self.new ≡ record self.old { flash = record self.old.flash { due = 1 } } }
+    {
+        self.flash.set_cut(k);
+    }
+
+    /// Takes back the power loss that is set, if there is one.
+    pub fn clear_cut(&mut self)
+        ensures { self.new ≡ record self.old { flash = record self.old.flash { due = 0 } } }
+    {
+        self.flash.clear_cut();
+    }
+
+    /// Proves that the flash never failed.
+    pub fn has_no_fault(&self)
+        ensures { self.now.flash.faults ≡ 0 }
+    {
+        let _ = &self.flash;
+    }
+}
+
+impl<F: FollowedFlash + SectorFlash> SectorLog<F> {
+    /// Returns true if the follower of the flash has all its operations, or if there was never one.
+    pub fn is_kept(&self) -> bool
+        ensures { result ≡ self.now.flash.kept }
+    {
+        self.flash.is_kept()
     }
 }
