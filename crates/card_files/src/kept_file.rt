@@ -2,13 +2,14 @@
 ghost use Rattle.std.specs.Prelude.{◌≡◌, ◌≤◌, ◌↔◌, ◌+◌, ◌*◌, false, length, IsTrue};
 ghost use Rattle.card_boards.specs.Images.{image_bytes};
 ghost use Rattle.card_files.specs.declared.image_words.TheConstants.{WORD_BYTES};
-ghost use Rattle.nvm_board.specs.declared.board.TheConstants.{MOST_PAGES, PAGE_WORDS};
+ghost use Rattle.nvm_board.specs.declared.board.TheConstants.{PAGE_WORDS};
+ghost use Rattle.simulated_flashes.specs.declared.flash_follower.TheConstants.{MOST_FLASH_WORDS};
 
 use crate::image_words::{PAGE_BYTES, WORD_BYTES};
 use arrayvec::ArrayVec;
 use nvm_board::PAGE_WORDS;
 use simulated_boards::{Follower, KeptBoard};
-use simulated_flashes::{FlashFollower, KeptFlash};
+use simulated_flashes::FlashFollower;
 use std::fs::File;
 use std::io;
 use std::os::unix::fs::{FileExt, MetadataExt};
@@ -91,7 +92,7 @@ impl KeptFile {
     /// Writes the words, and returns true if the file took them all.
     fn write(&self, at: usize, words: &[u32]) -> bool
         requires size { length words.now ≤ PAGE_WORDS }
-        requires within { at + length words.now ≤ PAGE_WORDS * MOST_PAGES }
+        requires within { at + length words.now ≤ MOST_FLASH_WORDS }
     {
         let bytes = big_endian_bytes(words);
         let wrote = self.file.write_at(&bytes, file_offset(at));
@@ -100,7 +101,7 @@ impl KeptFile {
 
     /// Writes more words, a page's number of them at a time, and returns true if the file took them all.
     fn write_all(&self, at: usize, words: &[u32]) -> bool
-        requires { at + length words.now ≤ PAGE_WORDS * MOST_PAGES }
+        requires { at + length words.now ≤ MOST_FLASH_WORDS }
     {
         for i in 0..(words.len() + PART - 1) / PART {
             let end = words.len().min(PART * i + PART);
@@ -113,7 +114,7 @@ impl KeptFile {
 
     /// Writes words unless an earlier write failed, and returns true if the file took them all.
     fn keep(&mut self, at: usize, words: &[u32]) -> bool
-        requires { at + length words.now ≤ PAGE_WORDS * MOST_PAGES }
+        requires { at + length words.now ≤ MOST_FLASH_WORDS }
         ensures told { result ≡ not (self.new.behind) }
         ensures never { self.old.behind ≡ true → self.new ≡ self.old }
     {
@@ -144,9 +145,6 @@ impl KeptFile {
 // Both have one type, since the compiler would copy all code that runs a script for a second one.
 pub type CardBoard = KeptBoard<KeptFile>;
 
-/// The simulated flash of a card in a file, or of one in memory alone.
-pub type CardFlash = KeptFlash<KeptFile>;
-
 impl Follower for KeptFile {
     ghost behind = { λ f. f.behind };
 
@@ -165,7 +163,7 @@ impl FlashFollower for KeptFile {
 
 /// Returns the offset of a word's first byte in the image.
 fn file_offset(at: usize) -> u64
-    requires { at ≤ PAGE_WORDS * MOST_PAGES }
+    requires { at ≤ MOST_FLASH_WORDS }
     ensures { result ≡ WORD_BYTES * at }
 {
     (WORD_BYTES * at) as u64

@@ -11,7 +11,7 @@ mod reading;
 mod swept_file;
 
 pub use flash_file::{FlashCardFault, NoFlash, open_flash};
-pub use kept_file::{CardBoard, CardFlash};
+pub use kept_file::{CardBoard, KeptFile};
 pub use opening::{CardFault, NoBoard, open_board};
 pub use options::{Asked, CardOptions, parse_bench_options};
 pub use swept_file::{BoardFault, swept_board};

@@ -1,23 +1,25 @@
 //! The bench as a program, with the card on a simulated flash: runs a script from standard input, and prints its
-//! output. Its first word, a number, chooses what power losses leave in the flash. With `--card FILE` the flash is in
-//! FILE, else in memory with the factory card.
+//! output. Its first word, a number, chooses what power losses leave in the flash; with `--small-sectors` before it the
+//! flash has small sectors. With `--card FILE` the flash is in FILE, else in memory with the factory card.
 #![tactic(auto)]
 
-ghost use Rattle.std.specs.Prelude.{◌≡◌, ◌≢◌, Err, IfNone, IfSome, MatchResult, map, take};
+ghost use Rattle.std.specs.Prelude.{◌≡◌, ◌≢◌, Err, IfNone, IfSome, MatchResult, map, take, true};
 ghost use Rattle.std.specs.String.{string_bytes};
 ghost use Rattle.std.specs.Vec.Iter.{into_iter_items, into_iter_len};
 ghost use Rattle.bench_lines.specs.Faults.{status_of};
 ghost use Rattle.card_bench.specs.ScriptEndings.{IsCardRun};
 ghost use Rattle.command_base.specs.Finding.{HasCard};
-ghost use Rattle.flash_board.specs.FlashFollowers.{board_is_kept};
-ghost use Rattle.flash_cli.specs.SeedWords.{GiveNoSeed, GiveSeed};
+ghost use Rattle.flash_cli.specs.SeedWords.{GiveFlash, GiveNoFlash, GiveNoSeed, GiveSeed};
 ghost use Rattle.simulated_boards.specs.CutFlashFacts.{cut_flash_facts};
 
+mod given;
+
+use crate::given::{AnyFlash, Given, flash_given};
 use bench_lines::RunFault;
 use card_bench::run_card;
-use card_files::{Asked, CardFlash, FlashCardFault, NoFlash, open_flash, parse_bench_options};
+use card_files::{Asked, FlashCardFault, NoFlash, parse_bench_options};
 use card_turns::Bench;
-use simulated_boards::CutFlashBoard;
+use simulated_boards::{CutFlashBoard, FollowedSocket, board_on_flash, board_on_sectors};
 use std::env;
 use std::io::{self, BufRead, BufReader, ErrorKind, Write};
 use std::process::ExitCode;
@@ -28,6 +30,10 @@ const BAD_COMMAND_LINE: u8 = 2;
 
 /// The exit status if a file is not taken as that of a card.
 const NO_CARD: u8 = 6;
+
+/// What a bad command line is told.
+const USAGE: &str = "usage: flash_cli [--small-sectors] SEED [--card FILE [--sync]], \
+    with SEED from 0 to 18446744073709551615";
 
 /// Reports a bad line, or a failed file, on standard error, and returns the exit status.
 fn report_run_fault(rt: &impl Eprint, fault: &RunFault) -> u8
@@ -58,8 +64,8 @@ fn report_card_fault(rt: &impl Eprint, fault: &FlashCardFault) -> u8
     NO_CARD
 }
 
-/// Returns the seed that the command line gives, and what else it asks for, if its words are these.
-fn seed_asked(rt: &HostRuntime) -> Result<Option<(u64, Asked)>, RunFault> {
+/// Returns what the command line gives, if its words give a flash.
+fn flash_asked(rt: &HostRuntime) -> Result<Option<Given>, RunFault> {
     match env::args(rt) {
         Ok(words) => Ok(parse_words(words)),
         Err(error) if error.kind() == ErrorKind::OutOfMemory => Err(RunFault::Memory),
@@ -67,41 +73,58 @@ fn seed_asked(rt: &HostRuntime) -> Result<Option<(u64, Asked)>, RunFault> {
     }
 }
 
-/// Returns the number that the first word behind the program's name is, and what the others ask for. Unless they ask
-/// for a card in a file there are no others.
-fn parse_words(words: IntoIter<String>) -> Option<(u64, Asked)>
-    ensures seed { IfSome result (λ given.
-        GiveSeed (map string_bytes (take (into_iter_len words) (into_iter_items words))) given.0 given.1) }
+/// Returns what the words behind the program's name give.
+fn parse_words(words: IntoIter<String>) -> Option<Given>
+    ensures flash { IfSome result (λ given.
+        GiveFlash (map string_bytes (take (into_iter_len words) (into_iter_items words)))
+        given.small given.seed given.asked) }
     ensures none { IfNone result
-        (GiveNoSeed (map string_bytes (take (into_iter_len words) (into_iter_items words)))) }
+        (GiveNoFlash (map string_bytes (take (into_iter_len words) (into_iter_items words)))) }
 {
     let mut words = words;
     let _program = words.next()?;
+    let first = words.next()?;
+    if first.as_bytes() != b"--small-sectors".as_slice() {
+        return parse_seed(false, first, words);
+    }
     let text = words.next()?;
+    parse_seed(true, text, words)
+}
+
+/// Returns the number that a text is, and what the words behind it ask for. Unless they ask for a card in a file there
+/// are none.
+fn parse_seed(small: bool, text: String, words: IntoIter<String>) -> Option<Given>
+    ensures sectors { IfSome result (λ given. given.small ≡ small) }
+    ensures seed { IfSome result (λ given. GiveSeed (string_bytes text)
+        (map string_bytes (take (into_iter_len words) (into_iter_items words))) given.seed given.asked) }
+    ensures none { IfNone result (GiveNoSeed (string_bytes text)
+        (map string_bytes (take (into_iter_len words) (into_iter_items words)))) }
+{
     let seed = text.parse::<u64>().ok()?;
     let is_last = words.len() == 0;
     match parse_bench_options(words) {
         Asked::Factory if !is_last => None,
-        asked => Some((seed, asked)),
+        asked => Some(Given { small, seed, asked }),
     }
 }
 
-/// Runs the script from standard input on the card on a flash of this seed that is asked for.
+/// Runs the script from standard input on the card on a flash that is asked for.
 ///
 /// # Errors
 /// The file is not taken as that of a card.
-fn run_seeded(
-    rt: &HostRuntime,
-    seed: u64,
-    asked: Asked,
-) -> Result<Result<(), RunFault>, FlashCardFault> {
+fn run_given(rt: &HostRuntime, given: Given) -> Result<Result<(), RunFault>, FlashCardFault> {
     let Ok(mut reader) = BufReader::new(rt.alloc(), rt.reader()) else {
         return Ok(Err(RunFault::Memory));
     };
-    match open_flash(rt, seed, asked) {
-        Ok(flash) => {
-            let board = CutFlashBoard::on(flash);
-            Ok(run_script(board, &mut reader, &mut io::writer(rt)))
+    let mut writer = io::writer(rt);
+    match flash_given(rt, given) {
+        Ok(AnyFlash::Large(flash)) => {
+            let board = board_on_flash(flash);
+            Ok(run_script(board, &mut reader, &mut writer))
+        }
+        Ok(AnyFlash::Small(flash)) => {
+            let board = board_on_sectors(flash);
+            Ok(run_script(board, &mut reader, &mut writer))
         }
         Err(NoFlash::Memory) => Ok(Err(RunFault::Memory)),
         Err(NoFlash::Card(fault)) => Err(fault),
@@ -112,13 +135,13 @@ fn run_seeded(
 ///
 /// # Errors
 /// Those of `run_card` but `Memory`: no second board runs ahead of a flash.
-fn run_script<R: BufRead, W: Write>(
-    board: CutFlashBoard<CardFlash>,
+fn run_script<B: FollowedSocket + Drop, R: BufRead, W: Write>(
+    board: CutFlashBoard<B>,
     reader: &mut R,
     writer: &mut W,
 ) -> Result<(), RunFault>
-    requires { HasCard (cut_flash_facts board).words }
-    ensures run { IsCardRun cut_flash_facts (λ b. board_is_kept b.board) board result (R.remaining reader.old)
+    requires { HasCard (cut_flash_facts B.facts board).words }
+    ensures run { IsCardRun (cut_flash_facts B.facts) (λ b. B.is_kept b.board) board result (R.remaining reader.old)
         (R.remaining reader.new) (W.contents writer.old) (W.contents writer.new) }
     ensures memory { result ≢ Err RunFault.Memory }
 {
@@ -127,15 +150,13 @@ fn run_script<R: BufRead, W: Write>(
 
 /// The exit status is 0, or that of the fault of the run.
 fn main(rt: HostRuntime) -> ExitCode {
-    match seed_asked(&rt) {
-        Ok(Some((seed, asked))) => match run_seeded(&rt, seed, asked) {
+    match flash_asked(&rt) {
+        Ok(Some(given)) => match run_given(&rt, given) {
             Ok(ran) => ExitCode::from(status_at_end(&rt, &ran)),
             Err(fault) => ExitCode::from(report_card_fault(&rt, &fault)),
         },
         Ok(None) => {
-            let _ = rt.eprintln(
-                "usage: flash_cli SEED [--card FILE [--sync]], with SEED from 0 to 18446744073709551615",
-            );
+            let _ = rt.eprintln(USAGE);
             ExitCode::from(BAD_COMMAND_LINE)
         }
         Err(fault) => ExitCode::from(report_run_fault(&rt, &fault)),

@@ -1,6 +1,6 @@
 -- A board of which a cut may be set to come, over one that never fails and of which none is due.
-use Rattle.std.specs.Prelude.{ℕ, zero, suc, ◌≡◌, ◌+◌, Bool, true, false, if◌then◌else◌, is_some, List, Option}
-use Rattle.std.specs.Prelude.{Some, None, option_map, Result, Ok, Err, OnOk, OnErr, is_ok, ◌<◌, ◌⊎◌}
+use Rattle.std.specs.Prelude.{ℕ, ◌≡◌, ◌+◌, Bool, true, false, if◌then◌else◌, is_some, List, Option}
+use Rattle.std.specs.Prelude.{Some, None, Result, Ok, Err, OnOk, OnErr, is_ok, ◌<◌, ◌⊎◌}
 use Rattle.std.proofs.Common.{refl, sym, ◌∙◌, ap, inl, inr, arith, rules, true≢false}
 use Rattle.std.proofs.Math.Logic.{⊎_map, ⊎_elim}
 use Rattle.nvm_board.specs.declared.board.Arm.{Arm}

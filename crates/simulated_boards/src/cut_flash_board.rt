@@ -1,17 +1,13 @@
 //! A board on a flash that loses power at a chosen write.
-ghost use Rattle.std.specs.Prelude.{◌≡◌, ◌≤◌, ◌+◌, ◌-◌, ◌⊎◌, ℕ, None, Some, Option, is_some, IsErrOf, IfOk};
+ghost use Rattle.std.specs.Prelude.{◌≡◌, ◌≤◌, ◌+◌, ◌-◌, ◌%◌, ◌⊎◌, ℕ, None, Some, Option, is_some, IsErrOf, IfOk};
 ghost use Rattle.std.specs.Prelude.{true, false};
 ghost use Rattle.nvm_board.specs.declared.board.DeviceErr.TheVariants.{PowerLost};
 ghost use Rattle.nvm_board.specs.Facts.{address};
 ghost use Rattle.nvm_board.specs.BoardCalls.{FitsPage, Writes};
-ghost use Rattle.flash_board.specs.FlashFacts.{flash_facts};
-ghost use Rattle.flash_board.specs.FlashFollowers.{board_is_kept};
 
 use crate::arming::{arm_at, nearer};
+use crate::cut_socket::{CutSocket, FollowedSocket};
 use crate::followed::Followed;
-use flash_board::FlashBoard;
-use flash_device::{CutFlash, FollowedFlash};
-use flash_log::FlashLog;
 use nvm_board::{Arm, Armed, Board, DeviceErr, Faultless, Socket, WornOut};
 use std::alloc::AllocError;
 
@@ -19,55 +15,42 @@ use std::alloc::AllocError;
 /// write are new. If it is clear, the other bits say how many operations of the write come before the one that loses
 /// power. The flash decides what that leaves. The arm survives power-ons until it fires.
 #[derive(Drop)]
-pub struct CutFlashBoard<F: CutFlash> {
-    board: FlashBoard<F>,
+pub struct CutFlashBoard<B: CutSocket> {
+    board: B,
     arm: Option<Arm>,
-    ghost uncut: { (flash_facts board).due ≡ 0 },
-    ghost unfailed: { (flash_facts board).faults ≡ 0 },
+    ghost uncut: { (B.facts board).due ≡ 0 },
+    ghost unfailed: { (B.facts board).faults ≡ 0 },
 }
 
 /// Sets the operation of the next write that loses power, if a mask names one.
-fn set_operation<F: CutFlash>(board: &mut FlashBoard<F>, mask: u16)
-    requires { (flash_facts board.old).due ≡ 0 }
-    ensures same { flash_facts board.new ≡ record (flash_facts board.old) { due = (flash_facts board.new).due } }
+fn set_operation<B: CutSocket>(board: &mut B, mask: u16)
+    requires { (B.facts board.old).due ≡ 0 }
+    ensures same { B.facts board.new ≡ record (B.facts board.old) { due = (B.facts board.new).due } }
+    ensures none { mask % 2 ≡ 1 → B.facts board.new ≡ B.facts board.old }
+    ensures set { mask % 2 ≡ 0 → (B.facts board.new).due ≡ 1 }
 {
     if mask & 1 == 0 {
         board.set_cut(1 + u32::from(mask >> 1));
     }
 }
 
-impl<F: CutFlash> CutFlashBoard<F> {
-    ghost use Rattle.flash_board.specs.FlashFacts.{made_of};
-    ghost use Rattle.flash_moves.specs.Places.{state_of};
-    ghost use Rattle.flash_moves.specs.Rings.{IsRing};
+impl<B: CutSocket> CutFlashBoard<B> {
     ghost use Rattle.simulated_boards.specs.CutFlashFacts.{cut_flash_facts};
 
-    /// Returns the board on a powered flash that has a log and no cut set. It is the board of this flash, since code
-    /// for any type of flash has no other.
-    pub fn on(flash: F) -> CutFlashBoard<F>
-        requires lit { (F.state flash).dark ≡ false }
-        requires uncut { (F.state flash).due ≡ 0 }
-        requires log { IsRing F.SLOTS (F.state flash).words }
-        ensures facts { cut_flash_facts result ≡ made_of (state_of F.PAGES F.SLOTS (F.state flash)) }
-        ensures kept { board_is_kept result.board ≡ (F.state flash).kept }
-    {
-        CutFlashBoard::new(FlashBoard::new(FlashLog::new(flash)))
-    }
-
     /// Returns the board of a flash without a cut set.
-    pub fn new(board: FlashBoard<F>) -> CutFlashBoard<F>
-        requires { (flash_facts board).due ≡ 0 }
-        ensures facts { cut_flash_facts result ≡ flash_facts board }
-        ensures kept { board_is_kept result.board ≡ board_is_kept board }
+    pub fn new(board: B) -> CutFlashBoard<B>
+        requires { (B.facts board).due ≡ 0 }
+        ensures facts { cut_flash_facts B.facts result ≡ B.facts board }
+        ensures board { result.board ≡ board }
     {
         board.has_no_fault();
         CutFlashBoard { board, arm: None }
     }
 
     /// Gives the board back that no write is set to lose power on.
-    pub fn into_board(self) -> FlashBoard<F>
-        ensures facts { flash_facts result ≡ record (cut_flash_facts self) { due = 0; pending = None } }
-        ensures kept { board_is_kept result ≡ board_is_kept self.board }
+    pub fn into_board(self) -> B
+        ensures facts { B.facts result ≡ record (cut_flash_facts B.facts self) { due = 0; pending = None } }
+        ensures board { result ≡ self.board }
     {
         self.board
     }
@@ -75,11 +58,11 @@ impl<F: CutFlash> CutFlashBoard<F> {
     /// Writes, and loses power in the write or behind it.
     #[inline(never)]
     fn write_cut(&mut self, page: u16, first: u8, words: &[u32], mask: u16) -> Result<(), DeviceErr>
-        requires run { FitsPage page first words.now (cut_flash_facts self.old) }
-        requires lit { (cut_flash_facts self.old).dark ≡ false }
+        requires run { FitsPage page first words.now (cut_flash_facts B.facts self.old) }
+        requires lit { (cut_flash_facts B.facts self.old).dark ≡ false }
         requires fires { self.old.arm ≡ Some record { whole_writes = 0; mask = mask } }
-        ensures writes { Writes (address page first) words.now (cut_flash_facts self.old)
-            (cut_flash_facts self.new) result }
+        ensures writes { Writes (address page first) words.now (cut_flash_facts B.facts self.old)
+            (cut_flash_facts B.facts self.new) result }
         ensures lost { IsErrOf result PowerLost }
     {
         self.arm = None;
@@ -95,10 +78,11 @@ impl<F: CutFlash> CutFlashBoard<F> {
 
     /// Writes on a board without power, or before the write that loses it.
     fn write_whole(&mut self, page: u16, first: u8, words: &[u32]) -> Result<(), DeviceErr>
-        requires run { FitsPage page first words.now (cut_flash_facts self.old) }
-        requires spared { (mask : ℕ) → (cut_flash_facts self.old).dark ≡ false
+        requires run { FitsPage page first words.now (cut_flash_facts B.facts self.old) }
+        requires spared { (mask : ℕ) → (cut_flash_facts B.facts self.old).dark ≡ false
             → ¬ (self.old.arm ≡ Some record { whole_writes = 0; mask = mask }) }
-        ensures { Writes (address page first) words.now (cut_flash_facts self.old) (cut_flash_facts self.new) result }
+        ensures { Writes (address page first) words.now (cut_flash_facts B.facts self.old)
+            (cut_flash_facts B.facts self.new) result }
     {
         let before = self.board.write_count();
         let ended = self.board.write(page, first, words);
@@ -111,11 +95,11 @@ impl<F: CutFlash> CutFlashBoard<F> {
     }
 }
 
-impl<F: CutFlash> Board for CutFlashBoard<F> {
+impl<B: CutSocket> Board for CutFlashBoard<B> {
     ghost use Rattle.simulated_boards.specs.CutFlashFacts.{cut_flash_facts};
     ghost use Rattle.simulated_boards.specs.laws.CutBoards.{cut_flash_is_board};
 
-    ghost facts = { cut_flash_facts };
+    ghost facts = { cut_flash_facts B.facts };
 
     fn pages(&self) -> u16 {
         self.board.pages()
@@ -147,10 +131,10 @@ impl<F: CutFlash> Board for CutFlashBoard<F> {
         ended
     }
 
-    ghost is_board = { cut_flash_is_board };
+    ghost is_board = { cut_flash_is_board B.facts B.is_board };
 }
 
-impl<F: CutFlash> Socket for CutFlashBoard<F> {
+impl<B: CutSocket> Socket for CutFlashBoard<B> {
     fn light(&mut self) -> Result<(), WornOut> {
         self.board.light()
     }
@@ -160,13 +144,13 @@ impl<F: CutFlash> Socket for CutFlashBoard<F> {
     }
 }
 
-impl<F: CutFlash> Armed for CutFlashBoard<F> {
+impl<B: CutSocket> Armed for CutFlashBoard<B> {
     fn arm(&mut self, k: u32, mask: u16) {
         self.arm = Some(arm_at(k, mask));
     }
 }
 
-impl<F: CutFlash> Faultless for CutFlashBoard<F> {
+impl<B: CutSocket> Faultless for CutFlashBoard<B> {
     ghost use Rattle.std.specs.Prelude.{refl};
 
     ghost faultless = { λ b. record { faults = b.unfailed; due = refl } };
@@ -174,8 +158,8 @@ impl<F: CutFlash> Faultless for CutFlashBoard<F> {
 
 // The follower gets the words of the flash, and not those of the board. So a second board can't run a charge first: if
 // a move is in it, the second run would first erase the area in which the follower has its pages by then.
-impl<F: FollowedFlash + Drop> Followed for CutFlashBoard<F> {
-    ghost has_kept = { λ b. board_is_kept b.board };
+impl<B: FollowedSocket + Drop> Followed for CutFlashBoard<B> {
+    ghost has_kept = { λ b. B.is_kept b.board };
 
     ghost has_follower = { λ b. false };
 
@@ -193,10 +177,10 @@ impl<F: FollowedFlash + Drop> Followed for CutFlashBoard<F> {
         self.arm
     }
 
-    fn unfollowed_copy(&self) -> Result<CutFlashBoard<F>, AllocError> {
+    fn unfollowed_copy(&self) -> Result<CutFlashBoard<B>, AllocError> {
         Err(AllocError)
     }
 
     // No board of this kind is copied.
-    fn copy_from(&mut self, _: &CutFlashBoard<F>) {}
+    fn copy_from(&mut self, _: &CutFlashBoard<B>) {}
 }

@@ -6,7 +6,9 @@
 mod arming;
 mod cut_board;
 mod cut_flash_board;
+mod cut_socket;
 mod fault_board;
+mod flash_sockets;
 mod followed;
 mod follower;
 mod kept_board;
@@ -15,7 +17,9 @@ mod runs;
 
 pub use cut_board::CutBoard;
 pub use cut_flash_board::CutFlashBoard;
+pub use cut_socket::{CutSocket, FollowedSocket};
 pub use fault_board::{Counted, FaultBoard};
+pub use flash_sockets::{board_on_flash, board_on_sectors};
 pub use followed::Followed;
 pub use follower::Follower;
 pub use kept_board::KeptBoard;

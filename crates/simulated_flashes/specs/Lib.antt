@@ -1,5 +1,6 @@
--- Simulated flashes: their states, and those of their followers.
+-- Simulated flashes: their sectors, their states, and those of their followers.
 pub mod Complements
-pub mod GarbledSectorParts
+pub mod EvenSectors
 pub mod GarblingStates
 pub mod KeptFlashes
+pub mod laws

@@ -1,5 +1,5 @@
 //! What a flash holds where an operation was interrupted, and where one was not.
-ghost use Rattle.std.specs.Prelude.{◌≡◌, ◌+◌, ◌≤◌, length, is_some, false};
+ghost use Rattle.std.specs.Prelude.{◌≡◌, ◌+◌, ◌≤◌, ◌<◌, length, is_some, false};
 ghost use Rattle.nvm_board.specs.Facts.{AreWords};
 ghost use Rattle.flash_device.specs.FlashCalls.{SameElsewhere, IsThere, AreFilled};
 ghost use Rattle.flash_device.specs.declared.flash.TheConstants.{BLANK};
@@ -9,8 +9,6 @@ use flash_device::BLANK;
 
 /// The words of a commit mark.
 const MARK: [u32; 2] = [0x436F_6D6D, 0x6974_7321];
-/// The number of words of an area: 20 for each of its slots, and its close mark.
-const AREA_WORDS: usize = 25_602;
 
 /// Puts a run into words.
 pub(crate) fn put_run(words: &mut Vec<u32>, at: usize, run: &[u32])
@@ -70,9 +68,10 @@ fn garbage(random: u64, kind: u64, place: usize, old: u32, new: u32) -> u32 {
 }
 
 /// Leaves garbage in `size` words that were to be those of a run, and blank behind it. The random number chooses its
-/// kind.
-fn garble_run(words: &mut Vec<u32>, at: usize, size: usize, run: &[u32], random: u64)
-    requires { at + size ≤ length words.old.items }
+/// kind. An area has `area` words.
+fn garble_run(words: &mut Vec<u32>, at: usize, size: usize, run: &[u32], random: u64, area: usize)
+    requires within { at + size ≤ length words.old.items }
+    requires area { 0 < area }
     ensures size { length words.new.items ≡ length words.old.items }
     ensures elsewhere { SameElsewhere words.old.items at size words.new.items }
     ensures fits { AreWords words.old.items → AreWords words.new.items }
@@ -82,7 +81,7 @@ fn garble_run(words: &mut Vec<u32>, at: usize, size: usize, run: &[u32], random:
     for k in 0..size {
         random = next_random(random);
         let new = if k < run.len() { run[k] } else { BLANK };
-        let place = (at + k) % AREA_WORDS;
+        let place = (at + k) % area;
         words[at + k] = garbage(random, kind, place, words[at + k], new);
     }
 }
@@ -102,22 +101,24 @@ fn complement_run(words: &mut Vec<u32>, at: usize, size: usize, run: &[u32])
 }
 
 /// Leaves what an interrupted operation leaves of `size` words that were to be those of a run, and blank behind it:
-/// garbage by a random number, or without one the complement of each word.
+/// garbage by a random number, or without one the complement of each word. An area has `area` words.
 pub(crate) fn tear_run(
     words: &mut Vec<u32>,
     at: usize,
     size: usize,
     run: &[u32],
     random: Option<u64>,
+    area: usize,
 )
-    requires { at + size ≤ length words.old.items }
+    requires within { at + size ≤ length words.old.items }
+    requires area { 0 < area }
     ensures size { length words.new.items ≡ length words.old.items }
     ensures complements { is_some random ≡ false → AreComplements words.new.items at size run.now }
     ensures elsewhere { SameElsewhere words.old.items at size words.new.items }
     ensures fits { AreWords words.old.items → AreWords words.new.items }
 {
     match random {
-        Some(random) => garble_run(words, at, size, run, random),
+        Some(random) => garble_run(words, at, size, run, random, area),
         None => complement_run(words, at, size, run),
     }
 }

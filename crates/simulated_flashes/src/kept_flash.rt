@@ -1,38 +1,39 @@
 //! A flash in working memory, and a follower that has its words too.
-ghost use Rattle.std.specs.Prelude.{◌≡◌, ◌+◌, ◌≤◌, ◌<◌, ◌*◌, ◌-◌, ◌⊎◌, true, false, length, slice_index, IfOk, OnOk};
+ghost use Rattle.std.specs.Prelude.{◌≡◌, ◌+◌, ◌≤◌, ◌<◌, ◌*◌, true, false, length, slice_index, IfOk, OnOk};
 ghost use Rattle.std.specs.Prelude.{[], is_some, IsErrOf};
-ghost use Rattle.nvm_board.specs.Facts.{AreWords};
 ghost use Rattle.nvm_board.specs.History.{run_in};
 ghost use Rattle.flash_device.specs.FlashCalls.{Lights, SameElsewhere, IsThere, AreFilled};
-ghost use Rattle.flash_device.specs.FlashBlocks.{flash_size};
+ghost use Rattle.flash_device.specs.FlashBlocks.{area_size, flash_size};
 ghost use Rattle.flash_device.specs.ProgrammedRuns.{IsProgramRun};
 ghost use Rattle.flash_device.specs.declared.flash.TheConstants.{BLANK};
 ghost use Rattle.simulated_flashes.specs.Complements.{AreComplements};
-ghost use Rattle.simulated_flashes.specs.GarbledSectorParts.{garbling_sector, garbling_sectors_rise};
+ghost use Rattle.simulated_flashes.specs.EvenSectors.{even_sector, even_size};
+ghost use Rattle.simulated_flashes.specs.laws.EvenLaws.{even_sectors_fit, even_sectors_rise};
 ghost use Rattle.simulated_boards.specs.Handed.{HandsOn};
 ghost use Rattle.simulated_flashes.specs.KeptFlashes.{flash_follower_state, kept_flash_state};
-ghost use Rattle.simulated_flashes.specs.declared.garbling_flash.TheConstants.{FLASH_WORDS};
 
 use crate::flash_follower::FlashFollower;
-use crate::garbling_flash::{FLASH_PAGES, GarblingFlash, SECTORS, SLOTS, size, start};
+use crate::flash_sizes::{FlashSizes, SmallSizes, size, start};
+use crate::garbling_flash::{FLASH_PAGES, GarblingFlash};
 use flash_device::{CutFlash, Flash, FlashSocket, FollowedFlash, PageSlots};
 use nvm_board::DeviceErr;
+use sector_log::SectorFlash;
 
 /// A flash in working memory, and its follower, if it has one. The flash hands the words of each program and erase to
 /// its follower, once, in order, as the operation left them, also if it lost power. A follower that fails changes
 /// nothing of the flash, and gets nothing more.
 #[derive(Drop)]
-pub struct KeptFlash<F: FlashFollower> {
-    flash: GarblingFlash,
+pub struct KeptFlash<F: FlashFollower, S: FlashSizes> {
+    flash: GarblingFlash<S>,
     follower: Option<F>,
     follows: bool,
 }
 
-impl<F: FlashFollower> KeptFlash<F> {
+impl<F: FlashFollower, S: FlashSizes> KeptFlash<F, S> {
     ghost use Rattle.simulated_flashes.specs.GarblingStates.{garbling_state};
 
     /// Returns the flash, and a follower that has its words already, or none.
-    pub fn new(flash: GarblingFlash, follower: Option<F>) -> KeptFlash<F>
+    pub fn new(flash: GarblingFlash<S>, follower: Option<F>) -> KeptFlash<F, S>
         ensures state { kept_flash_state result ≡ garbling_state flash }
         ensures random { result.flash.random ≡ flash.random }
         ensures follower { result.follower ≡ follower }
@@ -47,7 +48,7 @@ impl<F: FlashFollower> KeptFlash<F> {
 
     /// Hands the words of an operation to the follower.
     fn hand_on(&mut self, at: usize, size: usize)
-        requires { at + size ≤ FLASH_WORDS }
+        requires { at + size ≤ flash_size S.SLOTS }
         ensures flash { self.new.flash ≡ self.old.flash }
         ensures handed { HandsOn F.log F.behind (run_in (kept_flash_state self.old).words at size)
             (flash_follower_state self.old) (flash_follower_state self.new) }
@@ -61,34 +62,34 @@ impl<F: FlashFollower> KeptFlash<F> {
     }
 }
 
-impl<F: FlashFollower> Flash for KeptFlash<F> {
-    ghost use Rattle.std.proofs.Common.{refl, lit<, lit≤};
+impl<F: FlashFollower, S: FlashSizes> Flash for KeptFlash<F, S> {
+    ghost use Rattle.std.proofs.Common.{refl, lit≤};
 
     type Table = PageSlots<1024>;
 
     const PAGES: u16 = FLASH_PAGES;
 
-    const SLOTS: u16 = SLOTS;
+    const SLOTS: u16 = S::SLOTS;
 
-    const SECTORS: u16 = SECTORS;
+    const SECTORS: u16 = S::SECTORS;
 
     ghost PAGES = { 1024 };
 
-    ghost SLOTS = { 1280 };
+    ghost SLOTS = { S.SLOTS };
 
-    ghost SECTORS = { 51 };
+    ghost SECTORS = { S.SECTORS };
 
-    ghost sector_start = { garbling_sector };
+    ghost sector_start = { even_sector S.SECTOR_WORDS (area_size S.SLOTS) S.SECTORS };
 
     ghost state = { kept_flash_state };
 
     fn sector_at(sector: u16) -> u32 {
-        GarblingFlash::sector_at(sector)
+        start::<S>(sector)
     }
 
     fn read(&mut self, at: u32) -> Result<u32, DeviceErr>
         requires lit { (kept_flash_state self.old).dark ≡ false }
-        requires within { at < flash_size 1280 }
+        requires within { at < flash_size S.SLOTS }
         ensures word { IfOk result (λ w. w ≡ slice_index (kept_flash_state self.old).words at) }
         ensures words { (kept_flash_state self.new).words ≡ (kept_flash_state self.old).words }
         ensures work { (kept_flash_state self.new).operations ≡ (kept_flash_state self.old).operations }
@@ -104,8 +105,8 @@ impl<F: FlashFollower> Flash for KeptFlash<F> {
     fn program(&mut self, at: u32, words: &[u32]) -> Result<(), DeviceErr>
         requires lit { (kept_flash_state self.old).dark ≡ false }
         requires blank { AreFilled (kept_flash_state self.old).words at (length words.now) BLANK }
-        requires within { at + length words.now ≤ flash_size 1280 }
-        requires run { IsProgramRun 1280 at (length words.now) }
+        requires within { at + length words.now ≤ flash_size S.SLOTS }
+        requires run { IsProgramRun S.SLOTS at (length words.now) }
         ensures done { OnOk result (IsThere (kept_flash_state self.new).words at words.now) }
         ensures elsewhere { SameElsewhere (kept_flash_state self.old).words at (length words.now)
             (kept_flash_state self.new).words }
@@ -125,24 +126,28 @@ impl<F: FlashFollower> Flash for KeptFlash<F> {
 
     fn erase(&mut self, sector: u16) -> Result<(), DeviceErr>
         requires lit { (kept_flash_state self.old).dark ≡ false }
-        requires sector { sector ≤ 2 * 51 }
-        ensures done { OnOk result (AreFilled (kept_flash_state self.new).words (garbling_sector sector)
-            (garbling_sector (sector + 1) - garbling_sector sector) BLANK) }
-        ensures elsewhere { SameElsewhere (kept_flash_state self.old).words (garbling_sector sector)
-            (garbling_sector (sector + 1) - garbling_sector sector) (kept_flash_state self.new).words }
+        requires sector { sector ≤ 2 * S.SECTORS }
+        ensures done { OnOk result (AreFilled (kept_flash_state self.new).words
+            (even_sector S.SECTOR_WORDS (area_size S.SLOTS) S.SECTORS sector)
+            (even_size S.SECTOR_WORDS (area_size S.SLOTS) S.SECTORS sector) BLANK) }
+        ensures elsewhere { SameElsewhere (kept_flash_state self.old).words
+            (even_sector S.SECTOR_WORDS (area_size S.SLOTS) S.SECTORS sector)
+            (even_size S.SECTOR_WORDS (area_size S.SLOTS) S.SECTORS sector) (kept_flash_state self.new).words }
         ensures work { (kept_flash_state self.new).operations ≤ (kept_flash_state self.old).operations + 1 }
         ensures erases { (kept_flash_state self.new).erases ≤ (kept_flash_state self.old).erases + 1 }
         ensures light { Lights (kept_flash_state self.old) (kept_flash_state self.new) result }
-        ensures handed { HandsOn F.log F.behind (run_in (kept_flash_state self.new).words (garbling_sector sector)
-            (garbling_sector (sector + 1) - garbling_sector sector))
+        ensures handed { HandsOn F.log F.behind (run_in (kept_flash_state self.new).words
+            (even_sector S.SECTOR_WORDS (area_size S.SLOTS) S.SECTORS sector)
+            (even_size S.SECTOR_WORDS (area_size S.SLOTS) S.SECTORS sector))
             (flash_follower_state self.old) (flash_follower_state self.new) }
         ensures torn { IsErrOf result DeviceErr.PowerLost → is_some self.old.flash.random ≡ false
-            → AreComplements (kept_flash_state self.new).words (garbling_sector sector)
-            (garbling_sector (sector + 1) - garbling_sector sector) [] }
+            → AreComplements (kept_flash_state self.new).words
+            (even_sector S.SECTOR_WORDS (area_size S.SLOTS) S.SECTORS sector)
+            (even_size S.SECTOR_WORDS (area_size S.SLOTS) S.SECTORS sector) [] }
         ensures random { is_some self.new.flash.random ≡ is_some self.old.flash.random }
     {
         let ended = self.flash.erase(sector);
-        self.hand_on(start(sector), size(sector));
+        self.hand_on(start::<S>(sector) as usize, size::<S>(sector) as usize);
         ended
     }
 
@@ -154,14 +159,14 @@ impl<F: FlashFollower> Flash for KeptFlash<F> {
 
     ghost table_fits = { λ t. t.sized };
 
-    ghost slots_fit = { (lit< tt, lit< tt) };
+    ghost slots_fit = { S.slots_fit };
 
-    ghost sectors_rise = { garbling_sectors_rise };
+    ghost sectors_rise = { even_sectors_rise S.SECTOR_WORDS (area_size S.SLOTS) S.SECTORS S.words_fit };
 
-    ghost sectors_fit = { (refl, refl, refl, refl, lit< tt, lit< tt) };
+    ghost sectors_fit = { even_sectors_fit S.SECTOR_WORDS (area_size S.SLOTS) S.SECTORS S.sectors_fit };
 }
 
-impl<F: FlashFollower> FlashSocket for KeptFlash<F> {
+impl<F: FlashFollower, S: FlashSizes> FlashSocket for KeptFlash<F, S> {
     fn light(&mut self)
         ensures state { kept_flash_state self.new ≡ record (kept_flash_state self.old) { dark = false } }
         ensures follower { flash_follower_state self.new ≡ flash_follower_state self.old }
@@ -179,7 +184,7 @@ impl<F: FlashFollower> FlashSocket for KeptFlash<F> {
     }
 }
 
-impl<F: FlashFollower> CutFlash for KeptFlash<F> {
+impl<F: FlashFollower, S: FlashSizes> CutFlash for KeptFlash<F, S> {
     ghost use Rattle.std.specs.Prelude.{refl};
 
     fn set_cut(&mut self, k: u32)
@@ -202,8 +207,18 @@ impl<F: FlashFollower> CutFlash for KeptFlash<F> {
     ghost faultless = { λ k. refl };
 }
 
-impl<F: FlashFollower> FollowedFlash for KeptFlash<F> {
+impl<F: FlashFollower, S: FlashSizes> FollowedFlash for KeptFlash<F, S> {
     fn is_kept(&self) -> bool {
         self.follows
     }
+}
+
+impl<F: FlashFollower, S: SmallSizes> SectorFlash for KeptFlash<F, S> {
+    ghost sectors_left = { S.sectors_left };
+
+    ghost sectors_hold = { S.sectors_hold };
+
+    ghost slots_left = { S.slots_left };
+
+    ghost copies_left = { S.copies_left };
 }

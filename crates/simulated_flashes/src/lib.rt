@@ -3,10 +3,12 @@
 #![tactic(auto)]
 
 mod flash_follower;
+mod flash_sizes;
 mod garbage;
 mod garbling_flash;
 mod kept_flash;
 
-pub use flash_follower::FlashFollower;
-pub use garbling_flash::{FLASH_PAGES, FLASH_WORDS, GarblingFlash};
+pub use flash_follower::{FlashFollower, MOST_FLASH_WORDS};
+pub use flash_sizes::{FlashSizes, LargeSectors, SmallSectors, SmallSizes, flash_words};
+pub use garbling_flash::{FLASH_PAGES, GarblingFlash};
 pub use kept_flash::KeptFlash;

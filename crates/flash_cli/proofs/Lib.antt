@@ -1,0 +1,2 @@
+-- Lemmas of the command line.
+pub mod GivenWords

@@ -1,0 +1,2 @@
+-- Laws of the definitions, with their proofs.
+pub mod EvenLaws
