@@ -9,7 +9,11 @@ from dataclasses import dataclass
 from functools import cached_property
 
 from . import layout
-from .flash import IMAGE_BYTES, Flash, NoLog, flash_of
+from .flash import KINDS, LARGE, SMALL, Flash, Kind, NoLog, flash_of, kind_of_size
+
+
+# the bytes of the largest image
+MOST_BYTES = max(layout.MOST_PAGES * layout.PAGE_BYTES, *(it.image_bytes for it in KINDS))
 
 
 class Unreadable(Exception):
@@ -96,20 +100,31 @@ def read_image(path: str) -> tuple[Image, bool]:
             if not stat.S_ISREG(os.fstat(it.fileno()).st_mode):
                 raise Unreadable(f"{path} is not a regular file; a memory image is one")
             is_used = not can_lock(it.fileno())
-            data = it.read(layout.MOST_PAGES * layout.PAGE_BYTES + 1)
+            data = it.read(MOST_BYTES + 1)
             size = os.fstat(it.fileno()).st_size
             # (a process that another thread is starting has the open file, and its lock, for a moment longer)
             fcntl.flock(it.fileno(), fcntl.LOCK_UN)
     except OSError as error:
         raise Unreadable(f"{path}: {error.strerror}") from error
-    if len(data) == IMAGE_BYTES:
+    if kind_of_size(len(data)):
         return image_of_flash(path, data), is_used
     if len(data) % layout.PAGE_BYTES or not layout.LEAST_PAGES <= len(data) // layout.PAGE_BYTES <= layout.MOST_PAGES:
         raise Unreadable(
             f"{path} has {max(size, len(data)):,} bytes; a memory image has {layout.PAGE_BYTES} bytes a page,"
-            f" and {layout.LEAST_PAGES:,} to {layout.MOST_PAGES:,} pages; a flash image has {IMAGE_BYTES:,} bytes"
+            f" and {layout.LEAST_PAGES:,} to {layout.MOST_PAGES:,} pages; a flash image has"
+            f" {LARGE.image_bytes:,} bytes, or {SMALL.image_bytes:,} with small sectors"
         )
     return image_of(data), is_used
+
+
+def why_other_flash(path: str, image: Image, kind: Kind, task: str) -> str | None:
+    """Why an image in a file isn't that of a flash of this kind, and how a task takes it; nothing if it is one."""
+    if image.flash is None:
+        return f"{path} has the memory of a card, and no flash: {task} it without --flash"
+    if image.flash.kind == kind:
+        return None
+    how = "with" if image.flash.kind.has_small_sectors else "without"
+    return f"{path} has a flash {how} small sectors: {task} it {how} --small-sectors"
 
 
 def without_waiting(path: str, flags: int) -> int:

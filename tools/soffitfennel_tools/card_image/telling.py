@@ -7,7 +7,7 @@ from typing import Any
 from ..explaining.templates import count as counted
 
 from . import layout
-from .flash import SLOTS, Flash
+from .flash import Flash
 from .known import known
 from .rollback import Step, steps
 from .rule_words import allowed, rule_line
@@ -39,8 +39,9 @@ def text(reading: Reading, has_secrets: bool, has_content: bool, has_names: bool
 
 def flash_lines(flash: Flash) -> Iterator[str]:
     """The blocks of a flash: whose turn it is, and how many slots hold what."""
-    yield f"flash    {len(flash.areas)} areas of {SLOTS:,} slots, turn {flash.turn}: the pages are in area" \
-        f" {flash.areas[flash.home].name}"
+    small = ", small sectors" if flash.kind.has_small_sectors else ""
+    yield f"flash    {len(flash.areas)} areas of {flash.kind.slots:,} slots{small}, turn {flash.turn}:" \
+        f" the pages are in area {flash.areas[flash.home].name}"
     for area in flash.areas:
         copied = f", {area.copied:,} copied" if area.copied else ""
         blank = f", {area.blank:,} blank" if area.blank else ""
@@ -184,10 +185,10 @@ def values(reading: Reading, has_secrets: bool, has_names: bool = False) -> dict
 
 def flash_values(flash: Flash) -> dict[str, Any]:
     """The blocks of a flash for JSON."""
-    areas = [asdict(it) | {"free": it.free, "garbage": it.garbage} for it in flash.areas]
+    areas = [asdict(it) | {"garbage": it.garbage} for it in flash.areas]
     home = flash.areas[flash.home].name
-    return {"turn": flash.turn, "home": home, "slots": SLOTS, "areas": areas,
-            "is_witness_closed": flash.is_closed(len(flash.areas))}
+    return {"has_small_sectors": flash.kind.has_small_sectors, "turn": flash.turn, "home": home,
+            "slots": flash.kind.slots, "areas": areas, "is_witness_closed": flash.is_closed(len(flash.areas))}
 
 
 def word_values(step: Step, has_secrets: bool) -> dict[str, str | None]:

@@ -11,16 +11,16 @@ from collections.abc import Iterator
 from pathlib import Path
 from typing import NamedTuple
 
-from ..card_image.flash import AREAS, MARK_WORDS, PAGES, SLOT_WORDS, SLOTS, WITNESS, Flash, flash_of, laid_out
+from ..card_image.flash import LARGE, MARK_WORDS, PAGES, SLOT_WORDS, Flash, flash_of, laid_out
 from ..card_image.image import read_image
 from .wear import Uncut
 
-# the sectors of an area on the bench, and the words of one; the witness is a sector
-SECTORS, SECTOR_WORDS = 51, 502
-BLOCKS = [(at + SECTOR_WORDS * it, SECTOR_WORDS) for at in AREAS for it in range(SECTORS)] + [(WITNESS, MARK_WORDS)]
-PLACES = [at + SLOT_WORDS * it for at in AREAS for it in range(SLOTS)]
+# the sectors, with the witness, and the slots
+AREAS = range(len(LARGE.areas))
+BLOCKS = [*(LARGE.sector(at, it) for at in AREAS for it in range(LARGE.sectors)), (LARGE.witness, MARK_WORDS)]
+PLACES = [LARGE.slot(at, it) for at in AREAS for it in range(LARGE.slots)]
 # a piece has fewer writes than a move has erases; the seed of the garbage, of which there is none
-MOST_WRITES, SEED = SECTORS - 1, "7"
+MOST_WRITES, SEED = LARGE.sectors - 1, "7"
 # The rounds of the log that are counted: in each, two moves erase each sector once. The first one is not counted, as
 # the other area of a new flash is blank.
 ROUNDS = 3

@@ -12,7 +12,7 @@ from pathlib import Path
 from tempfile import TemporaryDirectory
 from typing import NamedTuple
 
-from ..card_image.flash import PAGES, SLOTS
+from ..card_image.flash import LARGE, PAGES, STEPS
 from ..card_image.image import read_image
 from ..card_image.tree import read
 from .flash_moves import ROUNDS, Rounds, rounds_of
@@ -23,8 +23,8 @@ CARDS, PAGE = TOP / "examples" / "cards", TOP / "docs" / "FLASH.md"
 # The writes that an area takes behind a move to it, at least, if no power is lost: a move copies each page, a page
 # more between two of its 64 steps with copies, and at most two slots are left, and those of the tries of a record. Two
 # moves erase each sector once.
-STEPS, TRIES = 64, 8
-ROOM = SLOTS - PAGES - STEPS - TRIES - 2
+TRIES = 8
+ROOM = LARGE.slots - PAGES - STEPS - TRIES - 2
 MILLION = 1_000_000
 HEAD = """\
 | session | sector erases, at most; counted | gate without flash |
@@ -109,7 +109,7 @@ class FlashWear(NamedTuple):
     @property
     def half_full(self) -> float:
         """The records of a write where half of the pages are in use."""
-        return (SLOTS - TRIES) / (SLOTS - TRIES - PAGES / 2 - self.rounds.again)
+        return (LARGE.slots - TRIES) / (LARGE.slots - TRIES - PAGES / 2 - self.rounds.again)
 
     def fault(self) -> str | None:
         """What doesn't fit what was worked out, if anything."""

@@ -8,6 +8,7 @@ import subprocess
 from pathlib import Path as FilePath
 from tempfile import TemporaryDirectory
 
+from ..card_image.flash import SMALL
 from ..card_image.image import Image, Unreadable, read_image
 from ..card_image.tree import read
 from ..outputs import write
@@ -39,8 +40,9 @@ def image_given(program: list[str]) -> Image | None:
 
 
 def copied(image: Image, program: list[str]) -> bytes:
-    """The bytes of the card in a file, for a program with these words: one with a flash has its seed first."""
-    is_on_flash = len(program) > 1 and program[1].isdigit()
+    """The bytes of the card in a file, for a program with these words: one with a flash has its kind or its seed
+    first."""
+    is_on_flash = len(program) > 1 and (program[1] in SMALL.options or program[1].isdigit())
     return image.flash.data() if image.flash and is_on_flash else image.data()
 
 

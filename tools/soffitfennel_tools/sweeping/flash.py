@@ -22,8 +22,8 @@ from .engine import Part, Refused, ran, with_depth
 from .outcomes import Found
 from .script import SweepScript
 from ..card_image import layout
-from ..card_image.flash import IMAGE_BYTES
-from ..card_image.image import Image, Unreadable, image_of_flash, read_image
+from ..card_image.flash import Kind, kind_of_size
+from ..card_image.image import Image, Unreadable, image_of_flash, read_image, why_other_flash
 from ..script_lines import ORDERS_THAT_PRINT
 
 T = TypeVar("T")
@@ -64,10 +64,10 @@ class Turn:
 
 
 class FlashBench:
-    """The bench with its card on a flash, and a private folder for the flashes of runs."""
+    """The bench with its card on a kind of flash, and a private folder for the flashes of runs."""
 
-    def __init__(self, path: str, folder: Path):
-        self.path, self.folder, self.names = path, folder, itertools.count()
+    def __init__(self, path: str, folder: Path, kind: Kind):
+        self.path, self.folder, self.kind, self.names = path, folder, kind, itertools.count()
 
     def prints(self, seed: int, lines: Sequence[str], image: bytes | None) -> list[str]:
         """What a script prints on a flash with these words, or with the factory card."""
@@ -90,7 +90,8 @@ class FlashBench:
 
     def ran(self, seed: int, lines: Sequence[str], *words: str) -> list[str]:
         """The lines that the program prints."""
-        return ran("".join(f"{line}\n" for line in lines), self.path, str(seed), *words, has_parts=False)
+        script = "".join(f"{line}\n" for line in lines)
+        return ran(script, self.path, *self.kind.options, str(seed), *words, has_parts=False)
 
 
 class FlashSweep:
@@ -226,23 +227,25 @@ def seed(text: str) -> int:
     return int(text)
 
 
-def image_in(path: str) -> bytes:
-    """The words on a flash in a file that no other program uses."""
+def image_in(path: str, kind: Kind) -> bytes:
+    """The words on a flash of this kind in a file that no other program uses."""
     try:
         found, is_used = read_image(path)
     except Unreadable as why:
         raise Refused(str(why)) from None
     if is_used:
         raise Refused(f"{path} is in use by another program")
-    if found.flash is None:
-        raise Refused(f"{path} has the memory of a card, and no flash: sweep it without --flash")
+    why_not = why_other_flash(path, found, kind, "sweep")
+    if why_not or not found.flash:
+        raise Refused(why_not)
     return found.flash.data()
 
 
 def refuse_flash(path: str) -> None:
     """Refuses a flash in a file where the memory of a card belongs. They differ in their size."""
-    if os.path.isfile(path) and os.path.getsize(path) == IMAGE_BYTES:
-        raise Refused(f"{path} has the size of a flash: sweep it with --flash SEED")
+    kind = kind_of_size(os.path.getsize(path)) if os.path.isfile(path) else None
+    if kind:
+        raise Refused(f"{path} has the size of {kind.name}: sweep it with {' '.join(['--flash SEED', *kind.options])}")
 
 
 @contextmanager
@@ -274,4 +277,4 @@ def sweep_on_flash(
     """The sweep of a script on a flash with these words, or with the factory card, as the only part that it has."""
     whole = with_depth(script, depth)
     lines = FlashSweep(bench, SweepScript(whole), image).lines(seeds, spread)
-    return {"script": whole, "seeds": seeds, "lines": list(lines)}
+    return {"script": whole, "seeds": seeds, "kind": bench.kind, "lines": list(lines)}

@@ -7,6 +7,7 @@ from os.path import commonprefix
 from typing import Any
 
 from .engine import PROBE
+from ..card_image.flash import Kind
 from ..card_words import read_table
 from ..explaining.commands import OF_PINS
 from ..explaining.templates import count
@@ -28,8 +29,9 @@ class Sweep:
         self.digits = orders[orders.index(PROBE) - 1].removeprefix("apdu ").upper()
         self.name = read_table()["command"].get(self.digits[:4], "the command")
         self.writes, self.depth = [it for it in lines if "kind" in it], lines[-1]["depth"]
-        # on a flash: the seeds of its garbage
+        # on a flash: the seeds of its garbage, and its kind
         self.seeds: range | None = parts[0].get("seeds")
+        self.kind: Kind | None = parts[0].get("kind")
         self.answer = lines[1]["answer"]
         self.stages = self.stages_from(*(tuple(it["found"]) for it in lines[:2]))
         # the runs with each outcome: those of each cut, and of all; the outcomes are in order of appearance; and the
@@ -77,10 +79,10 @@ class Sweep:
 
     def place(self) -> str:
         """Where the card is, if it is on a flash."""
-        if self.seeds is None:
+        if self.seeds is None or self.kind is None:
             return ""
         last = f"s {self.seeds[0]} to {self.seeds[-1]}" if len(self.seeds) > 1 else f" {self.seeds[0]}"
-        return f" on a flash with seed{last}"
+        return f" on {self.kind.name} {'and' if self.kind.has_small_sectors else 'with'} seed{last}"
 
 
 def whole(write: dict[str, Any]) -> int:
@@ -145,6 +147,6 @@ def as_json(sweep: Sweep) -> str:
               "found": [{"line": line, "answer": answer} for line, answer in zip(sweep.looks, it)]}
              for it, runs in sweep.outcomes.items()]
     told = {key: getattr(sweep, key) for key in ("answer", "depth", "runs", "writes", "commits")}
-    if sweep.seeds is not None:
-        told["seeds"] = list(sweep.seeds)
+    if sweep.seeds is not None and sweep.kind is not None:
+        told |= {"has_small_sectors": sweep.kind.has_small_sectors, "seeds": list(sweep.seeds)}
     return json.dumps({"command": sweep.digits, **told, "outcomes": found}, indent=1)

@@ -4,7 +4,7 @@ from __future__ import annotations
 import itertools
 from pathlib import Path
 
-from ...card_image.flash import Flash
+from ...card_image.flash import LARGE, Flash, Kind
 from ...card_image.image import read_image
 from ..card.bench import Bench
 
@@ -15,15 +15,15 @@ SEED = 7
 
 
 class FlashBench(Bench):
-    """The bench with its card on a flash in a file."""
+    """The bench with its card on a kind of flash in a file."""
 
-    def __init__(self, path: str, image: Path, seed: int = SEED) -> None:
+    def __init__(self, path: str, image: Path, seed: int = SEED, kind: Kind = LARGE) -> None:
         super().__init__(path, image)
-        self.seed = seed
+        self.seed, self.kind = seed, kind
 
     def words(self, *options: str) -> list[str]:
         """Its command line. A run may have another seed than the one before."""
-        return [self.path, str(self.seed), "--card", str(self.image), *options]
+        return [self.path, *self.kind.options, str(self.seed), "--card", str(self.image), *options]
 
     def flash(self) -> Flash:
         """The flash in the file."""
@@ -42,6 +42,11 @@ class FlashBench(Bench):
         flash = self.flash()
         self.image.write_bytes(image)
         return flash
+
+    def has_operations(self, line: str, many: int) -> bool:
+        """Whether the first write of a line has so many, as a power loss at the last one shows, and at the next."""
+        whole = self.left(line, "0001")
+        return self.left(line, f"{2 * many - 2:04X}") != whole == self.left(line, f"{2 * many:04X}")
 
     def operations(self, line: str) -> int:
         """The programs and erases of the first write of a line behind a power-on. A power loss in one of them leaves

@@ -29,7 +29,7 @@ from dataclasses import dataclass
 from pathlib import Path
 from tempfile import TemporaryDirectory
 
-from ...card_image.flash import AREA_WORDS, AREAS, Flash
+from ...card_image.flash import LARGE, PAGES, STEP_PAGES, STEPS, Flash, Kind
 from ...card_image.layout import GATE_PAGE, PAGE_WORDS
 from ...card_image.layout import JOURNAL_PAGE as PAIR_PAGE
 from ..checks import Checks
@@ -41,7 +41,6 @@ SELECT, UPDATE = "apdu 00A4000C026F01", "apdu 00D600000401020304"
 SAME, AGAIN = UPDATE.replace("01020304", "FFFFFFFF"), f"{SELECT}\n{UPDATE}"
 # those of an update of the file's next word: its pair has another address
 OTHER = AGAIN.replace("D6000004", "D6000404")
-SECTORS, SECTOR_WORDS, PAGES, STEP = 51, 502, 1024, 16
 # The updates of a session up to write 134, the second one that erases B; up to write 326, the fifth one that erases A;
 # up to write 374, the second one that copies to A; and up to write 386, the 14th one.
 TO_ERASES_OF_B, TO_ERASES_OF_A, TO_COPIES, TO_MORE_COPIES = 31, 79, 91, 94
@@ -49,7 +48,7 @@ ERASED, COPIED, MORE_COPIED = 5, 2, 14
 # the page of PIN 1: on this card pages 32 to 64 are entries without a file, all zeros
 FIRST_PIN_PAGE = 65
 # the operations of a write that erases, of one that copies, and of one that copies an older page again before
-ERASES, COPIES, COPIES_MORE = 1 + 2, 2 * STEP + 2, 2 + 2 * STEP + 2
+ERASES, COPIES, COPIES_MORE = 1 + 2, 2 * STEP_PAGES + 2, 2 + 2 * STEP_PAGES + 2
 # A write begins at most 37 operations (docs/FLASH.md, "The pause"): those, and the close mark of a move's last step.
 MOST = COPIES_MORE + 1
 # the sessions of one write, and how many of them are between two looks at the flash: less than from move to move
@@ -64,14 +63,9 @@ def session(updates: int) -> list[str]:
     return ["on", CREATE, *[SAME] * updates]
 
 
-def sector(area: int, number: int) -> int:
-    """The address of a sector of an area, by its number in the area."""
-    return AREAS[area] + SECTOR_WORDS * number
-
-
 def blank_sectors(flash: Flash, area: int) -> list[int]:
     """The sectors of an area that are blank."""
-    return [it for it in range(SECTORS) if flash.is_blank(sector(area, it), SECTOR_WORDS)]
+    return [it for it in range(flash.kind.sectors) if flash.is_blank(*flash.kind.sector(area, it))]
 
 
 def pages_in(flash: Flash, area: int) -> list[int]:
@@ -81,18 +75,18 @@ def pages_in(flash: Flash, area: int) -> list[int]:
 
 def pages_of(*steps: int) -> list[int]:
     """The pages that these steps copy."""
-    return [STEP * step + it for step in steps for it in range(STEP)]
+    return [STEP_PAGES * step + it for step in steps for it in range(STEP_PAGES)]
 
 
 class Moves:
     """The flashes of a test, each in a file."""
 
-    def __init__(self, tests: Checks, flash: str, folder: Path) -> None:
-        self.tests, self.flash, self.folder = tests, flash, folder
+    def __init__(self, tests: Checks, flash: str, folder: Path, kind: Kind) -> None:
+        self.tests, self.flash, self.folder, self.kind = tests, flash, folder, kind
 
     def bench(self, name: str, lines: Iterable[str]) -> FlashBench:
         """A bench on a new flash, behind a session."""
-        bench = FlashBench(self.flash, self.folder / name, COMPLEMENTS)
+        bench = FlashBench(self.flash, self.folder / name, COMPLEMENTS, self.kind)
         bench.run("".join(f"{it}\n" for it in lines))
         return bench
 
@@ -109,9 +103,10 @@ def check_erases(moves: Moves) -> None:
     for mask, erased in (("0000", ERASED), ("0001", ERASED + 1), ("0001", ERASED + 2)):
         same(bench.operations(AGAIN), ERASES, f"an erase, a record and a mark: {mask}, {erased}")
         bench.cut(AGAIN, mask)
-        new, end = bench.flash(), sector(0, erased if mask == "0001" else erased + 1)
+        new, (end, _) = bench.flash(), LARGE.sector(0, erased if mask == "0001" else erased + 1)
         same(blank_sectors(new, 0), [*range(erased)], f"the blank sectors: {mask}, {erased}")
-        same(new.words[end:AREA_WORDS], old.words[end:AREA_WORDS], f"the others stay: {mask}, {erased}")
+        area = slice(end, LARGE.area_words)
+        same(new.words[area], old.words[area], f"the others stay: {mask}, {erased}")
 
 
 def check_copies(moves: Moves) -> None:
@@ -122,14 +117,15 @@ def check_copies(moves: Moves) -> None:
     bench = moves.bench("copies", session(TO_MORE_COPIES))
     old = pages_in(bench.flash(), 0)
     # (the pages of writes 378 to 385 are copied again; that of write 386, the gate, is older)
-    same((len(old), sorted({*old})), (STEP * MORE_COPIED + 8, pages_of(*range(MORE_COPIED))), "14 steps are taken")
+    steps = pages_of(*range(MORE_COPIED))
+    same((len(old), sorted({*old})), (len(steps) + 8, steps), "14 steps are taken")
     for step, line, older in ((MORE_COPIED, OTHER, GATE_PAGE), (MORE_COPIED + 1, AGAIN, PAIR_PAGE)):
         same(bench.operations(line), COPIES_MORE, f"16 pages are copied, and before them an older one: step {step}")
         bench.cut(line, "0001")
         new = pages_in(bench.flash(), 0)
         same(new, [*old, older, *pages_of(step)], f"behind a power-on the pages of step {step} are the next ones")
         old = new
-    for step in range(MORE_COPIED + 2, PAGES // STEP - 1):
+    for step in range(MORE_COPIED + 2, STEPS - 1):
         bench.cut((OTHER, AGAIN)[step % 2], "0001")
     same(bench.flash().turn, 2, "one step is left")
     same(bench.operations(AGAIN), MOST, "the last step copies, and closes a block")
@@ -173,7 +169,7 @@ def check_new_flash(moves: Moves) -> None:
     """A new flash has nothing to erase. So behind a power-on in the first move the first pages are copied."""
     same = moves.tests.same
     bench = moves.bench("new", session(TO_ERASES_OF_B))
-    same((bench.flash().turn, blank_sectors(bench.flash(), 1)), (0, [*range(SECTORS)]), "area B is blank")
+    same((bench.flash().turn, blank_sectors(bench.flash(), 1)), (0, [*range(LARGE.sectors)]), "area B is blank")
     same(bench.operations(AGAIN), COPIES, "16 pages are copied, a record and a mark")
     bench.cut(AGAIN, "0001")
     same(pages_in(bench.flash(), 1), pages_of(0), "they are the first ones")
@@ -187,7 +183,7 @@ def check_zeros(moves: Moves) -> None:
     same(pages_in(bench.flash(), 0), pages_of(*range(COPIED)), "two steps are taken")
     same(bench.operations(AGAIN), COPIES, "16 pages are copied, a record and a mark")
     bench.cut(AGAIN, "0001")
-    wanted = pages_of(*range(COPIED), FIRST_PIN_PAGE // STEP)
+    wanted = pages_of(*range(COPIED), FIRST_PIN_PAGE // STEP_PAGES)
     same(pages_in(bench.flash(), 0), wanted, "pages 32 to 63 are not copied")
 
 
@@ -285,4 +281,4 @@ def check(tests: Checks, flash: str) -> None:
              check_losses)
     for part in parts:
         with TemporaryDirectory(prefix="moves-") as folder:
-            part(Moves(tests, flash, Path(folder)))
+            part(Moves(tests, flash, Path(folder), LARGE))

@@ -14,13 +14,14 @@ from collections.abc import Callable, Sequence
 from pathlib import Path
 from typing import Any
 
+from ...card_image.flash import KINDS, LARGE, SMALL, Kind
 from ...programs import program
 from ...sweeping.engine import Refused
 from ...sweeping.flash import FlashBench, FlashSweep, Turn
 from ...sweeping.script import SweepScript
 from ..card.bench import ATR
 from ..checks import Checks
-from . import moves
+from . import moves, small_moves
 from .moves import CREATE, SELECT, UPDATE
 
 TOP = Path(__file__).resolve().parents[4]
@@ -33,8 +34,9 @@ READ = "apdu 00B000000A"
 NEW = "< 01020304FFFFFFFFFFFF9000"
 # whether a pair counts behind a torn mark of the gate: then the next power-on has a first write
 PAIR_COUNTS = ("on", CREATE, "cut 2 0002", UPDATE, "cut 1 0001", "on")
-# behind so many updates in one session all 51 sectors are erased, and 48 pages are copied: up to write 186 (moves.py)
-UPDATES_TO_COPIES = 44
+# behind so many updates in one session all 51 sectors are erased, and 48 pages are copied: up to write 186 (moves.py);
+# on small sectors 304 pages are copied: up to write 970 (small_moves.py)
+UPDATES_TO_COPIES = {LARGE: 44, SMALL: 240}
 SEEDS, FIRST_SEED = 7, 38
 # seconds until a sweep has begun, at most
 PATIENCE = 60
@@ -75,9 +77,9 @@ class Room:
         """How many runs find which card."""
         return {it["card"]: it["runs"] for it in self.found(*words)["outcomes"]}
 
-    def prints(self, seed: int, *lines: str, image: Path | None = None) -> list[str]:
+    def prints(self, seed: int, *lines: str, image: Path | None = None, kind: Kind = LARGE) -> list[str]:
         """What a script prints on a flash."""
-        words = [self.flash, str(seed), *(["--card", str(image)] if image else [])]
+        words = [self.flash, *kind.options, str(seed), *(["--card", str(image)] if image else [])]
         ran = subprocess.run(words, input="\n".join(lines), capture_output=True, text=True, check=True)
         return ran.stdout.splitlines()
 
@@ -94,9 +96,23 @@ def check_counts(room: Room) -> None:
     """UPDATE BINARY of a word has four writes of a record and a mark: three cuts each. A torn mark of seed 0 is old.
     Behind six of these cuts a pair counts, and a power-on writes the word and the gate: six cuts, five of which leave
     the pair."""
-    for depth, runs in enumerate(((11, 1), (41, 1), (191, 1))):
-        came = room.runs("--flash", "0", "--depth", str(depth), ONE_WORD)
-        room.tests.same(came, dict(zip((BEFORE, AFTER), runs)), f"the runs, {depth} deep")
+    for kind in KINDS:
+        for depth, runs in enumerate(((11, 1), (41, 1), (191, 1))):
+            came = room.runs("--flash", "0", *kind.options, "--depth", str(depth), ONE_WORD)
+            room.tests.same(came, dict(zip((BEFORE, AFTER), runs)), f"the runs, {depth} deep: {kind.name}")
+
+
+def check_kinds(room: Room) -> None:
+    """A report names the kind of its flash, also where no command says so."""
+    for kind, place in ((LARGE, "on a flash with seed 5"), (SMALL, "on a flash with small sectors and seed 5")):
+        words = ["--depth", "0", *kind.options, "--flash", "5", str(ONE_WORD)]
+        picture = room.folder / "kind.svg"
+        shown = room.sweep("--picture", picture, *words)[1]
+        told = picture.read_text(encoding="utf-8")
+        room.tests.check(f" 4 device writes {place};" in f" {shown.splitlines()[1]}", f"the table: {place}", shown)
+        room.tests.check(f"4 device writes {place}," in told, f"the picture: {place}", told)
+        is_small = room.found(*words).get("has_small_sectors")
+        room.tests.same(is_small, kind.has_small_sectors, f"the kind in JSON: {kind.name}")
 
 
 def check_same_cards(room: Room) -> None:
@@ -142,40 +158,45 @@ def check_move(room: Room) -> None:
     """Each write takes a step of a move, behind a power-on too: the erase of a sector, then a record and a mark. That
     is four cuts for each of four writes. Behind eight of them a pair counts, and a power-on writes the word and the
     gate: eight cuts each, 8 + 8 * 8 runs in all. The image stays."""
-    image = room.folder / "image"
-    room.prints(3, *moves.session(moves.TO_ERASES_OF_A), image=image)
-    script, before = room.folder / "selected.script", image.read_bytes()
-    script.write_text("\n".join(["on", SELECT, "# command", UPDATE, "# probe", SELECT, READ]))
-    for depth, runs in enumerate(((15, 1), (71, 1))):
-        came = room.runs("--flash", "0", "--card", image, "--depth", str(depth), script)
-        room.tests.same(came, dict(zip((BEFORE, AFTER), runs)), f"the runs in a move, {depth} deep")
-    writes = room.found("--flash", "7", "--card", image, "--depth", "0", script)["writes"]
-    room.tests.same([it["operations"] for it in writes], [moves.ERASES] * 4, "an erase, a record and a mark")
-    script.write_text("\n".join(["on", SELECT, UPDATE]))
-    _, shown, _ = room.sweep("--flash", "7", "--all", "--depth", "0", "--card", image, script, "--only", "3")
-    room.tests.same(shown.split()[8:15], ["3", "UPDATE", "BINARY", "9000", "4", "16", "2"], "--all --card")
-    room.tests.check(image.read_bytes() == before, "the image stays as it is")
+    for kind, updates in ((LARGE, moves.TO_ERASES_OF_A), (SMALL, small_moves.TO_ERASES_OF_A)):
+        image = room.folder / f"image.{kind.slots}"
+        room.prints(3, *moves.session(updates), image=image, kind=kind)
+        script, before = room.folder / "selected.script", image.read_bytes()
+        script.write_text("\n".join(["on", SELECT, "# command", UPDATE, "# probe", SELECT, READ]))
+        options = [*kind.options, "--card", str(image), str(script)]
+        for depth, runs in enumerate(((15, 1), (71, 1))):
+            came = room.runs("--flash", "0", "--depth", str(depth), *options)
+            room.tests.same(came, dict(zip((BEFORE, AFTER), runs)), f"the runs in a move, {depth} deep: {kind.name}")
+        writes = room.found("--flash", "7", "--depth", "0", *options)["writes"]
+        room.tests.same([it["operations"] for it in writes], [moves.ERASES] * 4, "an erase, a record and a mark")
+        script.write_text("\n".join(["on", SELECT, UPDATE]))
+        _, shown, _ = room.sweep("--flash", "7", "--all", "--depth", "0", *options, "--only", "3")
+        room.tests.same(shown.split()[8:15], ["3", "UPDATE", "BINARY", "9000", "4", "16", "2"], "--all --card")
+        room.tests.check(image.read_bytes() == before, "the image stays as it is")
 
 
 def check_copies(room: Room) -> None:
     """Each write copies 16 pages: a record and a mark for each, and for its own page. The second one, write 188, copies
-    page 73 and writes it, the gate. So the third first copies it again."""
+    page 73 and writes it, the gate. So the third first copies it again. On small sectors each write erases one first.
+    Behind write 970 the pages that these writes are of all have copies, so each step copies one again."""
     script = room.folder / "copies.script"
-    lines = [*moves.session(UPDATES_TO_COPIES), "# command", UPDATE, "# probe", SELECT, READ]
-    script.write_text("\n".join(lines))
-    came = room.found("--flash", "0", "--depth", "0", script)
-    room.tests.same([it["operations"] for it in came["writes"]], [34, 34, 36, 34], "operations that copy")
-    room.tests.same([it["runs"] for it in came["outcomes"]], [141, 1], "the runs of a move that copies")
+    for kind, operations, runs in ((LARGE, [34, 34, 36, 34], 141), (SMALL, [37, 37, 37, 37], 151)):
+        lines = [*moves.session(UPDATES_TO_COPIES[kind]), "# command", UPDATE, "# probe", SELECT, READ]
+        script.write_text("\n".join(lines))
+        came = room.found("--flash", "0", *kind.options, "--depth", "0", script)
+        room.tests.same([it["operations"] for it in came["writes"]], operations, f"operations that copy: {kind.name}")
+        room.tests.same([it["runs"] for it in came["outcomes"]], [runs, 1], f"the runs that copy: {kind.name}")
 
 
 def check_all(room: Room) -> None:
     """Every command of a script has the writes and the outcomes that it has in working memory."""
     words = ("--all", "--depth", "0", "--only", "6,7,9", TOP / "examples/personalise.script")
-    plain, flash = (room.sweep(*first, *words)[1].splitlines() for first in ((), ("--flash", "4")))
+    options = ((), *(("--flash", "4", *it.options) for it in KINDS))
+    tables = [room.sweep(*first, *words)[1].splitlines() for first in options]
     # (without the runs and the seconds)
-    shown = [[[*it.split()[:-4], *it.split()[-3:-1]] for it in rows] for rows in (plain, flash)]
-    room.tests.same(shown[1], shown[0], "--all")
-    room.tests.same(len(flash), 4, "--only")
+    shown = [[[*it.split()[:-4], *it.split()[-3:-1]] for it in rows] for rows in tables]
+    room.tests.same(shown[1:], [shown[0]] * len(KINDS), "--all")
+    room.tests.same([len(it) for it in tables], [4] * len(tables), "--only")
 
 
 def check_wrong_cards(room: Room) -> None:
@@ -202,7 +223,7 @@ def check_strange_programs(room: Room) -> None:
     fault = "sweep: two runs of the command differ: a device write has no end\n"
     room.tests.same(came, (2, "", fault), "a write without an end")
     said, fault = "", "a command or a power-on has no end: it makes more than 4000 device writes"
-    sweep = FlashSweep(AlwaysDark("", room.folder), SweepScript(ONE_WORD.read_text(encoding="ascii")), None)
+    sweep = FlashSweep(AlwaysDark("", room.folder, LARGE), SweepScript(ONE_WORD.read_text(encoding="ascii")), None)
     try:
         deque(sweep.written(Turn((), "on", None)), maxlen=0)
     except Refused as why:
@@ -277,6 +298,7 @@ def check_refusals(room: Room) -> None:
     fault = "sweep: error card: no card is found on the flash: the words of its pages break a rule\n"
     room.tests.same(room.sweep("--flash", "0", "--card", image, ONE_WORD), (2, "", fault), "a flash without a card")
     image.unlink()
+    check_other_kinds(room, image)
     room.prints(0, image=image)
     process = subprocess.Popen([room.flash, "0", "--card", image], stdin=subprocess.PIPE, stdout=subprocess.PIPE)
     assert process.stdin and process.stdout
@@ -290,6 +312,7 @@ def check_refusals(room: Room) -> None:
     most = 2**64 - 1
     for words, why in (
         (("--seeds", "2"), "--seeds goes with --flash"),
+        (("--small-sectors",), "--small-sectors goes with --flash"),
         (("--flash", "1", "--part", "1/2"), "--part doesn't go with --flash"),
         (("--flash", "1", "--merge"), "--merge doesn't go with --flash"),
         (("--flash", "0", "--seeds", "10001"), "argument --seeds: a number from 1 to 10000"),
@@ -297,6 +320,21 @@ def check_refusals(room: Room) -> None:
         (("--flash", str(most), "--seeds", "2"), f"--seeds 2: the last seed would be above {most}"),
     ):
         room.tests.same(room.sweep(*words, ONE_WORD), (2, "", f"{named}{why}\n"), why)
+
+
+def check_other_kinds(room: Room, image: Path) -> None:
+    """A flash of the other kind is refused, and one in place of a memory. The files stay."""
+    for kind, other, how in ((LARGE, SMALL, "without"), (SMALL, LARGE, "with")):
+        room.prints(0, image=image, kind=kind)
+        before = image.read_bytes()
+        fault = f"sweep: {image} has a flash {how} small sectors: sweep it {how} --small-sectors\n"
+        came = room.sweep("--flash", "0", *other.options, "--card", image, ONE_WORD)
+        room.tests.same(came, (2, "", fault), f"the other kind: {kind.name}")
+        fault = f"sweep: {image} has the size of {kind.name}: sweep it with --flash SEED"
+        fault += f"{''.join(f' {it}' for it in kind.options)}\n"
+        room.tests.same(room.sweep("--card", image, ONE_WORD), (2, "", fault), f"no seed: {kind.name}")
+        room.tests.check(image.read_bytes() == before, f"the file stays: {kind.name}")
+        image.unlink()
 
 
 def check_picture(room: Room) -> None:
@@ -314,8 +352,8 @@ def check_picture(room: Room) -> None:
 
 def check(tests: Checks) -> None:
     """All of them."""
-    parts = (check_counts, check_same_cards, check_seeds, check_move, check_copies, check_all, check_wrong_cards,
-             check_strange_programs, check_privacy, check_ends, check_refusals, check_picture)
+    parts = (check_counts, check_kinds, check_same_cards, check_seeds, check_move, check_copies, check_all,
+             check_wrong_cards, check_strange_programs, check_privacy, check_ends, check_refusals, check_picture)
     for part in parts:
         with tempfile.TemporaryDirectory(prefix="sweeps-") as folder:
             part(Room(Path(folder), tests))

@@ -13,7 +13,7 @@ from concurrent.futures import ThreadPoolExecutor
 from dataclasses import dataclass
 from pathlib import Path
 
-from ...card_image.flash import AREA_WORDS, MARK_WORDS, Flash
+from ...card_image.flash import LARGE, MARK_WORDS, Flash
 from ...porting.slots import PAGES, SECTOR_WORDS, SLOTS, SPARE_SECTORS, set_size
 from ..chip.building import WARNINGS, lacks
 from ..chip.kills import DONE, READ, RIGHT, SELECT, update
@@ -76,7 +76,7 @@ def log_of(flash: Path) -> Flash:
     """The words of the log, whose sectors lie where the map says."""
     words = array("I")
     with flash.open("rb") as file:
-        for place, size in zip(taken(flash).places, (AREA_WORDS, AREA_WORDS, MARK_WORDS)):
+        for place, size in zip(taken(flash).places, (LARGE.area_words, LARGE.area_words, MARK_WORDS)):
             file.seek(4 * WORDS * place)
             words.frombytes(file.read(4 * size))
     return Flash(tuple(words))
