@@ -75,7 +75,7 @@ class Kind:
     @property
     def lead(self) -> int:
         """The free slots from which on a write takes a step of a move."""
-        return self.sectors + 1 + (TRIES if self.has_small_sectors else STEPS)
+        return self.sectors + 1 + TRIES + (0 if self.has_small_sectors else STEPS)
 
     def sector(self, area: int, number: int) -> tuple[int, int]:
         """The address of a sector of an area, by its number in the area, and how many words it has."""

@@ -47,7 +47,11 @@ TO_ERASES_OF_B, TO_ERASES_OF_A, TO_COPIES, TO_MORE_COPIES = 31, 79, 91, 94
 ERASED, COPIED, MORE_COPIED = 5, 2, 14
 # the page of PIN 1: on this card pages 32 to 64 are entries without a file, all zeros
 FIRST_PIN_PAGE = 65
-# the operations of a write that erases, of one that copies, and of one that copies an older page again before
+# the writes of CREATE, and of an update
+CREATED, WRITES_OF_AN_UPDATE = 10, 4
+# the operations of a write without a step, of one that erases, of one that copies, and of one that copies an older page
+# again before
+PLAIN = 2
 ERASES, COPIES, COPIES_MORE = 1 + 2, 2 * STEP_PAGES + 2, 2 + 2 * STEP_PAGES + 2
 # A write begins at most 37 operations (docs/FLASH.md, "The pause"): those, and the close mark of a move's last step.
 MOST = COPIES_MORE + 1
@@ -131,6 +135,20 @@ def check_copies(moves: Moves) -> None:
     same(bench.operations(AGAIN), MOST, "the last step copies, and closes a block")
     bench.cut(AGAIN, "0001")
     same((bench.flash().turn, bench.flash().areas[0].used), (0, PAGES + 58 + 1), "no page is copied twice")
+
+
+def check_lead(moves: Moves, copies: int) -> None:
+    """The last write that takes no step, and the first one that takes one: behind a power-on on a new flash it has so
+    many operations, as it copies the first pages."""
+    updates, left = divmod(moves.kind.slots - PAGES - moves.kind.lead - CREATED, WRITES_OF_AN_UPDATE)
+    bench = moves.bench("lead", session(updates))
+    lines = [(AGAIN, OTHER)[it % 2] for it in range(left + 1)]
+    for line in lines[:-2]:
+        bench.cut(line, "0001")
+    moves.tests.check(bench.has_operations(lines[-2], PLAIN), "the last write without a step")
+    bench.cut(lines[-2], "0001")
+    moves.tests.same(bench.flash().areas[0].free, moves.kind.lead, "the free slots of the first step")
+    moves.tests.check(bench.has_operations(lines[-1], copies), "the first write with a step")
 
 
 def check_unchanged(moves: Moves) -> None:
@@ -282,3 +300,5 @@ def check(tests: Checks, flash: str) -> None:
     for part in parts:
         with TemporaryDirectory(prefix="moves-") as folder:
             part(Moves(tests, flash, Path(folder), LARGE))
+    with TemporaryDirectory(prefix="moves-") as folder:
+        check_lead(Moves(tests, flash, Path(folder), LARGE), COPIES)

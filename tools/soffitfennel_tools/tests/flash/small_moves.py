@@ -30,7 +30,7 @@ from ...card_image.layout import GATE_PAGE
 from ...card_image.layout import JOURNAL_PAGE as PAIR_PAGE
 from ..checks import Checks
 from .bench import COMPLEMENTS, SEED, FlashBench
-from .moves import AGAIN, COPIED, OTHER, Moves, pages_of, session, with_pair
+from .moves import AGAIN, COPIED, OTHER, Moves, check_lead, pages_of, session, with_pair
 
 # The updates of a session up to write 930; up to write 942, the seventh one that erases B; up to write 1342, the
 # seventh one that erases A; up to write 1354, the third one that copies to A; and up to write 1370, the 19th one.
@@ -208,3 +208,5 @@ def check(tests: Checks, flash: str) -> None:
     for part in parts:
         with TemporaryDirectory(prefix="moves-") as folder:
             part(Moves(tests, flash, Path(folder), SMALL))
+    with TemporaryDirectory(prefix="moves-") as folder:
+        check_lead(Moves(tests, flash, Path(folder), SMALL), COPIES)
