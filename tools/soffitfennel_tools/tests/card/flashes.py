@@ -131,8 +131,15 @@ def stepped(kind: Kind, memory: list[int]) -> list[int]:
     return flash
 
 
+def half_erased(kind: Kind, memory: list[int]) -> list[int]:
+    """The move of `stepped`, but a torn erase left a blank mark and no blank sector. So no copy counts."""
+    flash = stepped(kind, memory)
+    put(flash, kind.slot(0, kind.slots - 1), [5])
+    return flash
+
+
 def rested(kind: Kind, memory: list[int]) -> list[int]:
-    """The same where no move is due: area B has 90 free slots. So no power-on looks for copies."""
+    """The move of `stepped`, but none is due: area B has 90 free slots. So no power-on looks for copies."""
     flash = stepped(kind, memory)
     put(flash, kind.slot(1, kind.slots - 90), [BLANK] * (28 * SLOT_WORDS))
     return flash
@@ -188,6 +195,11 @@ SHOWN = (
     (SMALL, stepped, [
         SMALL_HEAD.format(2, "B"),
         "area A   open: 1,629 slots used (0 live pages, 32 copied, 992 old, 0 garbage, 605 blank), 419 free",
+        "area B   closed: 1,986 slots used (1,024 live pages, 347 old, 0 garbage, 615 blank), 62 free", "witness  open",
+    ]),
+    (SMALL, half_erased, [
+        SMALL_HEAD.format(2, "B"),
+        "area A   open: 2,048 slots used (0 live pages, 1,024 old, 1 garbage, 1,023 blank), 0 free",
         "area B   closed: 1,986 slots used (1,024 live pages, 347 old, 0 garbage, 615 blank), 62 free", "witness  open",
     ]),
     (SMALL, rested, [

@@ -300,5 +300,3 @@ def check(tests: Checks, flash: str) -> None:
     for part in parts:
         with TemporaryDirectory(prefix="moves-") as folder:
             part(Moves(tests, flash, Path(folder), LARGE))
-    with TemporaryDirectory(prefix="moves-") as folder:
-        check_lead(Moves(tests, flash, Path(folder), LARGE), COPIES)

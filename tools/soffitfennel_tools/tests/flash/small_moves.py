@@ -30,11 +30,13 @@ from ...card_image.layout import GATE_PAGE
 from ...card_image.layout import JOURNAL_PAGE as PAIR_PAGE
 from ..checks import Checks
 from .bench import COMPLEMENTS, SEED, FlashBench
-from .moves import AGAIN, COPIED, OTHER, Moves, check_lead, pages_of, session, with_pair
+from .moves import AGAIN, COPIED, OTHER, Moves, pages_of, session, with_pair
 
 # The updates of a session up to write 930; up to write 942, the seventh one that erases B; up to write 1342, the
-# seventh one that erases A; up to write 1354, the third one that copies to A; and up to write 1370, the 19th one.
-TO_THE_MOVE, TO_ERASES_OF_B, TO_ERASES_OF_A, TO_COPIES, TO_MORE_COPIES = 230, 233, 333, 336, 340
+# seventh one that erases A; up to write 1350, the 15th of 16; up to write 1354, the third one that copies to A; and up
+# to write 1370, the 19th one.
+TO_THE_MOVE, TO_ERASES_OF_B, TO_ERASES_OF_A, TO_THE_LAST_ERASE_OF_A = 230, 233, 333, 335
+TO_COPIES, TO_MORE_COPIES = 336, 340
 ERASED, COPIED_FIRST, MORE_COPIED = 7, 3, 19
 # the first step from the second one on whose pages, 64 to 79, are not all zeros: on this card pages 4 to 64 are those
 # of entries without a file
@@ -208,5 +210,3 @@ def check(tests: Checks, flash: str) -> None:
     for part in parts:
         with TemporaryDirectory(prefix="moves-") as folder:
             part(Moves(tests, flash, Path(folder), SMALL))
-    with TemporaryDirectory(prefix="moves-") as folder:
-        check_lead(Moves(tests, flash, Path(folder), SMALL), COPIES)
