@@ -1,6 +1,7 @@
 """Flash images of both kinds that are built by hand, and what tools/card says of each."""
 from __future__ import annotations
 
+import json
 import random
 import struct
 from pathlib import Path
@@ -220,6 +221,21 @@ def of_pages(checks: Checks, image: Path) -> None:
     checks.compare("no difference to the card of a memory", (0, [], ""), card("--diff", image, memory))
 
 
+def of_programs(checks: Checks, image: Path) -> None:
+    """What programs get of a flash of each kind."""
+    keys = ("name", "is_closed", "used", "live", "copied", "old", "blank", "free", "garbage")
+    for kind, build, slots, areas in (
+        (LARGE, copied, 1280, (("A", False, 34, 0, 32, 1, 0, 1246, 1), ("B", True, 1024, 1024, 0, 0, 0, 256, 0))),
+        (SMALL, stepped, 2048,
+         (("A", False, 1629, 0, 32, 992, 605, 419, 0), ("B", True, 1986, 1024, 0, 347, 615, 62, 0))),
+    ):
+        image.write_bytes(data(kind, build(kind, factory())))
+        wanted = {"has_small_sectors": kind == SMALL, "turn": 2, "home": "B", "slots": slots,
+                  "areas": [dict(zip(keys, it)) for it in areas], "is_witness_closed": False}
+        _, lines, _ = card("--json", image)
+        checks.compare(f"{kind.name}, for programs", wanted, json.loads("\n".join(lines))["flash"])
+
+
 def of_others(checks: Checks, image: Path) -> None:
     """A flash with garbage in its home area, without a turn, and files that are none."""
     for kind in KINDS:
@@ -245,4 +261,5 @@ def of_others(checks: Checks, image: Path) -> None:
 def check(checks: Checks, folder: Path) -> None:
     """All of them."""
     of_pages(checks, folder / "flash.image")
+    of_programs(checks, folder / "flash.image")
     of_others(checks, folder / "flash.image")
