@@ -18,6 +18,8 @@ CLOSED = (0x12345678, BLANK)
 FIRST_BEHIND, FROM_SECTOR = 1639, 64
 # pages of the third step, which has sector 2
 THIRD_STEP = (32, 33)
+# a page of a later step, all zeros
+LATER = 50
 
 
 def blank(kind: Kind) -> list[int]:
@@ -132,6 +134,20 @@ def stepped(kind: Kind, memory: list[int]) -> list[int]:
     return flash
 
 
+def later(kind: Kind, memory: list[int]) -> list[int]:
+    """The move of `stepped`, whose second sector has an old copy of a later page too."""
+    flash = stepped(kind, memory)
+    put(flash, kind.slot(0, kind.slots_before(2) - 1), slot(LATER, [1] * PAGE_WORDS))
+    return flash
+
+
+def lacking(kind: Kind, memory: list[int]) -> list[int]:
+    """The same, but area B lacks that page, which is all zeros. So no step counts."""
+    flash = later(kind, memory)
+    put(flash, kind.slot(1, kind.first_slot(LATER // 16) + LATER % 16) + 16, [PAGES])
+    return flash
+
+
 def half_erased(kind: Kind, memory: list[int]) -> list[int]:
     """The move of `stepped`, but a torn erase left a blank mark and no blank sector. So no copy counts."""
     flash = stepped(kind, memory)
@@ -197,6 +213,16 @@ SHOWN = (
         SMALL_HEAD.format(2, "B"),
         "area A   open: 1,629 slots used (0 live pages, 32 copied, 992 old, 0 garbage, 605 blank), 419 free",
         "area B   closed: 1,986 slots used (1,024 live pages, 347 old, 0 garbage, 615 blank), 62 free", "witness  open",
+    ]),
+    (SMALL, later, [
+        SMALL_HEAD.format(2, "B"),
+        "area A   open: 1,629 slots used (0 live pages, 32 copied, 993 old, 0 garbage, 604 blank), 419 free",
+        "area B   closed: 1,986 slots used (1,024 live pages, 347 old, 0 garbage, 615 blank), 62 free", "witness  open",
+    ]),
+    (SMALL, lacking, [
+        SMALL_HEAD.format(2, "B"),
+        "area A   open: 1,629 slots used (0 live pages, 1,025 old, 0 garbage, 604 blank), 419 free",
+        "area B   closed: 1,986 slots used (1,023 live pages, 347 old, 1 garbage, 615 blank), 62 free", "witness  open",
     ]),
     (SMALL, half_erased, [
         SMALL_HEAD.format(2, "B"),
