@@ -69,7 +69,7 @@ class Helps(unittest.TestCase):
 
     def test_all_options(self) -> None:
         for it in self.told:
-            listed = re.findall(r"^  (-[^ ,]+)(?:, (--[a-z-]+))?", self.texts[it.name], re.M)
+            listed = re.findall(r"^  (-[^\s,]+)(?:, (--[a-z-]+))?", self.texts[it.name], re.M)
             wanted = {name for names in listed for name in names if name}
             self.assertLessEqual(wanted, set(completion.flags(it)), it.name)
             self.assertIn("--version", completion.flags(it), it.name)
