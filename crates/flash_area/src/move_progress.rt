@@ -8,7 +8,8 @@ ghost use Rattle.flash_device.specs.PageTables.{IsPageTable};
 ghost use Rattle.flash_device.specs.declared.layout.TheConstants.{STEP_PAGES};
 ghost use Rattle.flash_area.specs.ProgressParts.{HasNoCopies, IsBestCopies, IsBlankCount, IsCopyCount, IsFirstUsed};
 ghost use Rattle.flash_area.specs.ProgressParts.{IsPagesEnd, IsSameCount, ReadsSame};
-ghost use Rattle.flash_area.specs.Spares.{IsSpare, KeepsSectors, KeepsSteps, copies_most, spare_in, spare_sector};
+ghost use Rattle.flash_area.specs.Spares.{FindsFurthest, IsSpare, KeepsSectors, KeepsSteps};
+ghost use Rattle.flash_area.specs.Spares.{copies_most, spare_in, spare_sector};
 
 use crate::image::read_page_word;
 use crate::record::is_closed;
@@ -292,7 +293,8 @@ fn fits<F: Flash>(erased: u16, next: u16) -> bool
 fn begins_anew<F: Flash>(found: Progress, erased: u16, next: u16) -> bool
     requires copied { found.copied ≤ 256 }
     requires next { next ≤ F.SLOTS }
-    ensures yes { result ≡ true → (F.SECTORS - erased) + steps_of F.PAGES + next ≤ F.SLOTS }
+    ensures yes { result ≡ true → (copies_most found.copied 0 < found.behind)
+        × ((F.SECTORS - erased) + steps_of F.PAGES + next ≤ F.SLOTS) }
     ensures no { result ≡ false → (found.behind ≤ copies_most found.copied 0)
         ⊎ (F.SLOTS < (F.SECTORS - erased) + steps_of F.PAGES + next) }
 {
@@ -320,6 +322,9 @@ pub fn find_progress<F: Flash>(
     ensures few { IfOk result (λ r. r.behind ≤ copies_most r.copied extra) }
     ensures keeps { IfOk result (λ r. KeepsSteps F.PAGES F.SLOTS F.SECTORS F.sector_start (F.state flash.old).words
         turn next extra r.erased r.copied r.behind) }
+    // It leaves no more steps than a move that goes on, or begins anew.
+    ensures furthest { IfOk result (λ r. FindsFurthest F.PAGES F.SLOTS F.SECTORS F.sector_start
+        (F.state flash.old).words turn next extra r.erased r.copied r.older) }
     // Also out of pace no sector that reads blank is erased again.
     ensures blank { IfOk result (λ r. KeepsSectors F.PAGES F.SLOTS F.SECTORS F.sector_start
         (F.state flash.old).words turn r.erased) }

@@ -1,6 +1,6 @@
 //! The board on a flash.
 ghost use Rattle.std.specs.Prelude.{◌≡◌, ◌+◌, ◌-◌, ◌*◌, ◌<◌, ◌≤◌, ◌↔◌, ◌⊎◌, ℕ, if◌then◌else◌, true, false, length};
-ghost use Rattle.std.specs.Prelude.{All, Contains, IfOk, IsErr, IsErrOf, IsTrue, OnErr, OnOk, slice_index};
+ghost use Rattle.std.specs.Prelude.{All, Contains, IsErr, IsErrOf, IsTrue, OnErr, OnOk, slice_index};
 ghost use Rattle.nvm_board.specs.declared.board.DeviceErr.TheVariants as DeviceErr;
 ghost use Rattle.nvm_board.specs.declared.board.TheConstants.{SECRETS, COUNT_END};
 ghost use Rattle.nvm_board.specs.Facts.{AreWords, IsMemory};
@@ -232,9 +232,9 @@ impl<F: Flash> Board for FlashBoard<F> {
     ghost use Rattle.flash_board.specs.FlashFacts.{flash_facts, log_state};
     ghost use Rattle.flash_device.specs.FlashCalls.{Costs};
     ghost use Rattle.flash_moves.specs.Paces.{CopiesNoPage, IsInPace, IsRoomy, Pauses, RegainsSlots, StandsInPace};
-    ghost use Rattle.flash_moves.specs.Paces.{TakesSlot, extra_of, failed_since, lead_of, lost_since};
+    ghost use Rattle.flash_moves.specs.Paces.{StaysInArea, TakesSlot, extra_of, failed_since, lead_of, lost_since};
     ghost use Rattle.flash_moves.specs.Places.{FindsFree};
-    ghost use Rattle.flash_log.specs.SlotsInTurn.{TakesInTurn, WillTake};
+    ghost use Rattle.flash_log.specs.SlotsInTurn.{BeginsBy, GivesUp, TakesInTurn, WillTake};
     ghost use Rattle.flash_moves.specs.declared.ahead.TheConstants.{TRIES};
     ghost use Rattle.flash_board.specs.laws.Boards.{flash_is_board};
     ghost use Rattle.nvm_board.specs.BoardCalls.{Compares, FitsPage, TellsWord, Writes};
@@ -304,6 +304,11 @@ impl<F: Flash> Board for FlashBoard<F> {
         ensures keeps_trying { IsErrOf result DeviceErr.Fault → (n : ℕ) → n + lead_of F.PAGES F.SECTORS < F.SLOTS
             → WillTake F.SLOTS (log_state self.old) n
             → (log_state self.old).flash.faults + TRIES ≤ (log_state self.new).flash.faults }
+        // It may give up before that only where a move that goes on, by what the flash shows, or begins anew needs all
+        // slots that are left for its steps, or a copy of another page is older.
+        ensures gives_up { IsErrOf result DeviceErr.Fault
+            → ((log_state self.old).flash.faults + TRIES ≤ (log_state self.new).flash.faults)
+            ⊎ GivesUp F.PAGES F.SLOTS F.SECTORS F.sector_start page (log_state self.new) }
         ensures work { Costs (2 * F.PAGES + 40 + F.SECTORS) 2 (log_state self.old).flash (log_state self.new).flash }
         // In pace a write is short, and longer only by two programs for each Fault of the flash. Out of pace one
         // without a Fault is short too, or is in pace behind it.
@@ -325,6 +330,28 @@ impl<F: Flash> Board for FlashBoard<F> {
             → WillTake F.SLOTS (log_state self.old) n
             → TakesInTurn F.SLOTS n (1 + ((log_state self.new).flash.faults - (log_state self.old).flash.faults))
             (log_state self.old) (log_state self.new) }
+        // In pace, while pages don't move, a due step is taken: no slot of the tries goes to one that is left out.
+        ensures steps { OnOk result ((extra : ℕ) → IsRoomy F.PAGES F.SLOTS F.SECTORS extra
+            → (log_state self.new).flash.faults ≡ (log_state self.old).flash.faults
+            → (log_state self.old).paced ≡ true → (log_state self.old).extra ≤ extra
+            → (log_state self.old).free ≤ lead_of F.PAGES F.SECTORS
+            → StaysInArea F.SLOTS (log_state self.old).raw (log_state self.new).raw
+            → (log_state self.new).left + 1 ≤ (log_state self.old).left) }
+        // In pace the next write begins at most one slot later, and one for each Fault, unless the pages move to the
+        // other area.
+        ensures begins { (extra n : ℕ) → IsRoomy F.PAGES F.SLOTS F.SECTORS
+            (extra + failed_since (log_state self.old).flash (log_state self.new).flash)
+            → StandsInPace F.PAGES F.SLOTS F.SECTORS F.sector_start extra (log_state self.old)
+            → StaysInArea F.SLOTS (log_state self.old).raw (log_state self.new).raw
+            → BeginsBy F.SLOTS (log_state self.old) n → BeginsBy F.SLOTS (log_state self.new)
+            (n + 1 + ((log_state self.new).flash.faults - (log_state self.old).flash.faults)) }
+        // One that returns a Fault passed over no slot but those of Faults.
+        ensures passes { IsErrOf result DeviceErr.Fault → (extra n : ℕ) → IsRoomy F.PAGES F.SLOTS F.SECTORS
+            (extra + failed_since (log_state self.old).flash (log_state self.new).flash)
+            → StandsInPace F.PAGES F.SLOTS F.SECTORS F.sector_start extra (log_state self.old)
+            → StaysInArea F.SLOTS (log_state self.old).raw (log_state self.new).raw
+            → BeginsBy F.SLOTS (log_state self.old) n → BeginsBy F.SLOTS (log_state self.new)
+            (n + ((log_state self.new).flash.faults - (log_state self.old).flash.faults)) }
         // With the slots for all tries each meets one Fault at most.
         ensures tries { (n : ℕ) → n + lead_of F.PAGES F.SECTORS + TRIES ≤ F.SLOTS
             → WillTake F.SLOTS (log_state self.old) n
@@ -427,6 +454,7 @@ impl<F: FlashSocket> Socket for FlashBoard<F> {
           tried = 0;
           fresh = true;
           free = 0;
+          left = 0;
         }) }
         // A board in pace stays so.
         ensures stands { (extra : ℕ)

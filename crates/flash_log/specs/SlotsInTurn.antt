@@ -1,9 +1,10 @@
--- The slots that a write takes before a step of a move is due: each try takes the next one.
-use Rattle.std.specs.Prelude.{◌≡◌, ◌≤◌, ◌+◌, ◌-◌, ◌*◌, ℕ, true, List, if◌then◌else◌}
+-- The slots that a write takes, each try the next one, and when none is left.
+use Rattle.std.specs.Prelude.{◌≡◌, ◌⊎◌, ◌≤◌, ◌+◌, ◌-◌, ◌*◌, ℕ, true, List, if◌then◌else◌}
+use Rattle.flash_area.specs.Spares.{MoveBeginsAnew, MoveGoesOn, steps_from}
 use Rattle.flash_device.specs.FlashCalls.{SameElsewhere}
 use Rattle.flash_device.specs.FlashLogs.{base_in, slot_of, turn_of}
 use Rattle.flash_device.specs.PageTables.{AreFree}
-use Rattle.flash_moves.specs.Paces.{LogState}
+use Rattle.flash_moves.specs.Paces.{LogState, extra_of}
 
 -- the slots that the log has passed: those that aren't free, or before it has found its pages those that writes tried
 abbrev pub passed_slots : ℕ → LogState → ℕ
@@ -19,6 +20,10 @@ pub record IsNextSlot (slots : ℕ) (m : List ℕ) (from n : ℕ) : Type 0 where
 pub record WillTake (slots : ℕ) (l : LogState) (n : ℕ) : Type 0 where
   pub next : IsNextSlot slots l.raw (passed_slots slots l) n
   pub paced : l.ready ≡ true → l.paced ≡ true
+
+-- No next slot lies behind this one: the next write in this area begins here or before.
+abbrev pub BeginsBy : ℕ → LogState → ℕ → Type 0
+BeginsBy slots l n = (k : ℕ) → IsNextSlot slots l.raw (passed_slots slots l) k → k ≤ n
 
 -- Tries of a write take slots from n on, so many at most, and the next write begins behind them: until power-on no slot
 -- is taken again, even if it reads blank. Together they got at most two programs a slot, of a record and its mark. No
@@ -41,3 +46,20 @@ pub record FindsNext (slots n : ℕ) (old new : LogState) : Type 0 where
   pub operations : new.flash.operations ≡ old.flash.operations
   pub erases : new.flash.erases ≡ old.flash.erases
   pub takes : WillTake slots new n
+
+-- No slot from one on is left for a record of a page: the steps of each move that goes on, and has no older copy but
+-- that of this page, need them all, and so do those of each that begins anew.
+pub record HasNoSlot (pages slots sectors : ℕ) (start : ℕ → ℕ) (m : List ℕ) (page n : ℕ) : Type 0 where
+  pub on : (e c b o : ℕ)
+      → MoveGoesOn pages slots sectors start m (turn_of slots m) n (extra_of pages slots sectors) e c b o
+      → (o ≡ 0) ⊎ (o ≡ page + 1)
+      → slots ≤ steps_from pages sectors (turn_of slots m) e c + n
+  pub anew : (e : ℕ)
+      → MoveBeginsAnew pages slots sectors start m (turn_of slots m) n (extra_of pages slots sectors) e
+      → slots ≤ steps_from pages sectors (turn_of slots m) e 0 + n
+
+-- A write of a page has no slot left for its next try.
+pub record GivesUp (pages slots sectors : ℕ) (start : ℕ → ℕ) (page : ℕ) (l : LogState) : Type 0 where
+  pub next : ℕ
+  pub is : IsNextSlot slots l.raw (passed_slots slots l) next
+  pub none : HasNoSlot pages slots sectors start l.raw page next

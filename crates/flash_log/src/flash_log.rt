@@ -1,6 +1,7 @@
 //! The log of a flash as one value: the words that it stands for, and its power.
 ghost use Rattle.std.specs.Prelude.{◌≡◌, ◌⊎◌, ◌<◌, ◌≤◌, ◌+◌, ◌-◌, ◌*◌, ℕ, true, false, length, slice_index};
-ghost use Rattle.std.specs.Prelude.{IfOk, IfErr, OnOk};
+ghost use Rattle.std.specs.Prelude.{IfOk, IfErr, IsErrOf, OnOk};
+ghost use Rattle.nvm_board.specs.declared.board.DeviceErr.TheVariants as DeviceErr;
 ghost use Rattle.nvm_board.specs.Facts.{AreWords, IsMemory};
 ghost use Rattle.nvm_board.specs.History.{written};
 ghost use Rattle.flash_device.specs.FlashCalls.{Costs, Lights, Tries};
@@ -53,9 +54,9 @@ impl<F: Flash> FlashLog<F> {
     ghost use Rattle.flash_moves.specs.Places.{FindsFree, new_log, state_of};
     ghost use Rattle.flash_device.specs.FlashLogs.{base_in, find, turn_of};
     ghost use Rattle.flash_device.specs.PageTables.{AreFree};
-    ghost use Rattle.flash_moves.specs.Paces.{IsInPace, StandsInPace};
+    ghost use Rattle.flash_moves.specs.Paces.{IsInPace, StandsInPace, StaysInArea};
     ghost use Rattle.flash_moves.specs.Rings.{IsRing};
-    ghost use Rattle.flash_log.specs.SlotsInTurn.{TakesInTurn, WillTake};
+    ghost use Rattle.flash_log.specs.SlotsInTurn.{BeginsBy, GivesUp, TakesInTurn, WillTake};
 
     /// The log of a flash that has one.
     pub fn new(flash: F) -> FlashLog<F>
@@ -190,6 +191,10 @@ impl<F: Flash> FlashLog<F> {
         // With the slots outside a move it gives up only after as many Faults as a record has tries.
         ensures keeps_trying { (n : ℕ) → n + lead_of F.PAGES F.SECTORS < F.SLOTS → WillTake F.SLOTS self.old n
             → Tries TRIES self.old.flash self.new.flash result }
+        // It may give up before that only where a move that goes on, by what the flash shows, or begins anew needs all
+        // slots that are left for its steps, or a copy of another page is older.
+        ensures gives_up { IsErrOf result DeviceErr.Fault → (self.old.flash.faults + TRIES ≤ self.new.flash.faults)
+            ⊎ GivesUp F.PAGES F.SLOTS F.SECTORS F.sector_start page self.new }
         ensures work { Costs (2 * F.PAGES + 40 + F.SECTORS) 2 self.old.flash self.new.flash }
         // In pace a write begins at most 37 programs and erases, whatever else it comes to, and two more for each Fault
         // of the flash. However often that fails, at most one of them is an erase.
@@ -208,6 +213,24 @@ impl<F: Flash> FlashLog<F> {
             → n + lead_of F.PAGES F.SECTORS + (self.new.flash.faults - self.old.flash.faults) < F.SLOTS
             → WillTake F.SLOTS self.old n
             → TakesInTurn F.SLOTS n (1 + (self.new.flash.faults - self.old.flash.faults)) self.old self.new }
+        // In pace, while pages don't move, a due step is taken: no slot of the tries goes to one that is left out.
+        ensures steps { OnOk result ((extra : ℕ) → IsRoomy F.PAGES F.SLOTS F.SECTORS extra
+            → self.new.flash.faults ≡ self.old.flash.faults → self.old.paced ≡ true → self.old.extra ≤ extra
+            → self.old.free ≤ lead_of F.PAGES F.SECTORS → StaysInArea F.SLOTS self.old.raw self.new.raw
+            → self.new.left + 1 ≤ self.old.left) }
+        // In pace the next write begins at most one slot later, and one for each Fault, unless the pages move to the
+        // other area.
+        ensures begins { (extra n : ℕ)
+            → IsRoomy F.PAGES F.SLOTS F.SECTORS (extra + failed_since self.old.flash self.new.flash)
+            → StandsInPace F.PAGES F.SLOTS F.SECTORS F.sector_start extra self.old
+            → StaysInArea F.SLOTS self.old.raw self.new.raw → BeginsBy F.SLOTS self.old n
+            → BeginsBy F.SLOTS self.new (n + 1 + (self.new.flash.faults - self.old.flash.faults)) }
+        // One that returns a Fault passed over no slot but those of Faults.
+        ensures passes { IsErrOf result DeviceErr.Fault → (extra n : ℕ)
+            → IsRoomy F.PAGES F.SLOTS F.SECTORS (extra + failed_since self.old.flash self.new.flash)
+            → StandsInPace F.PAGES F.SLOTS F.SECTORS F.sector_start extra self.old
+            → StaysInArea F.SLOTS self.old.raw self.new.raw → BeginsBy F.SLOTS self.old n
+            → BeginsBy F.SLOTS self.new (n + (self.new.flash.faults - self.old.flash.faults)) }
         // With the slots for all tries each meets one Fault at most.
         ensures tries { (n : ℕ) → n + lead_of F.PAGES F.SECTORS + TRIES ≤ F.SLOTS → WillTake F.SLOTS self.old n
             → self.new.flash.faults ≤ self.old.flash.faults + TRIES }
@@ -291,6 +314,7 @@ impl<F: FlashSocket> FlashLog<F> {
           tried = 0;
           fresh = true;
           free = 0;
+          left = 0;
         } }
         // A log in pace stays so.
         ensures stands { (extra : ℕ) → StandsInPace F.PAGES F.SLOTS F.SECTORS F.sector_start extra self.old

@@ -7,13 +7,13 @@ ghost use Rattle.flash_device.specs.PageTables.{AreFree, IsPageTable};
 ghost use Rattle.flash_moves.specs.Paces.{CopiesNoPageAt, HasStepped, HasMoved, HasNoStepDue, IsInPace, IsRoomy};
 ghost use Rattle.flash_moves.specs.Paces.{KeepsFree, KeepsPace, MovesFound, MovesWell, Pauses};
 ghost use Rattle.flash_moves.specs.Paces.{IsBeforeMove, IsCaughtUp, WillKeepPace, extra_of, free_slots};
-ghost use Rattle.flash_moves.specs.Paces.{KeepsRoom, StandsSo, failed_since, is_fresh, lead_of, lost_since};
-ghost use Rattle.flash_moves.specs.Places.{FindsFree, IsLog, IsPlaceOf, log_value};
-ghost use Rattle.flash_log.specs.SlotsInTurn.{FindsNext, IsNextSlot, WillTake};
+ghost use Rattle.flash_moves.specs.Paces.{KeepsRoom, StandsSo, StaysInArea, failed_since, is_fresh, lead_of};
+ghost use Rattle.flash_moves.specs.Paces.{lost_since, steps_left};
+ghost use Rattle.flash_moves.specs.Places.{FindsFree, IsLog, log_value};
+ghost use Rattle.flash_log.specs.SlotsInTurn.{BeginsBy, FindsNext, IsNextSlot, WillTake};
 ghost use Rattle.flash_area.specs.HeldPages.{HavePages};
-ghost use Rattle.flash_area.specs.Spares.{IsSpare, KeepsSectors, KeepsSteps, copies_most};
+ghost use Rattle.flash_area.specs.Spares.{FindsFurthest, IsSpare, KeepsSectors, KeepsSteps, copies_most};
 ghost use Rattle.flash_log.specs.Renewals.{HasLastMark};
-ghost use Rattle.flash_device.specs.declared.layout.TheConstants.{STEP_PAGES};
 
 use flash_area::{Progress, find_progress, home, read_page_word, scan};
 use flash_device::{Flash, copy_steps};
@@ -60,6 +60,9 @@ fn progress_at<F: Flash>(
     ensures idle { IfOk result (λ r. next + lead_of F.PAGES F.SECTORS < F.SLOTS → (r.copied ≡ 0) × (r.behind ≡ 0)) }
     ensures keeps { IfOk result (λ r. KeepsSteps F.PAGES F.SLOTS F.SECTORS F.sector_start (F.state flash.old).words
         turn next (extra_of F.PAGES F.SLOTS F.SECTORS) r.erased r.copied r.behind) }
+    ensures furthest { IfOk result (λ r. F.SLOTS ≤ next + lead_of F.PAGES F.SECTORS → FindsFurthest F.PAGES F.SLOTS
+        F.SECTORS F.sector_start (F.state flash.old).words turn next (extra_of F.PAGES F.SLOTS F.SECTORS) r.erased
+        r.copied r.older) }
     ensures blank { IfOk result (λ r. F.SLOTS ≤ next + lead_of F.PAGES F.SECTORS → KeepsSectors F.PAGES F.SLOTS
         F.SECTORS F.sector_start (F.state flash.old).words turn r.erased) }
     ensures words { (F.state flash.new).words ≡ (F.state flash.old).words }
@@ -95,10 +98,15 @@ pub fn find_pages<F: Flash>(flash: &mut F, place: &mut PageMap<F::Table>) -> Res
     ensures tried { place.new.tried ≡ place.old.tried }
     ensures next { OnOk result (place.old.ready ≡ false → (n : ℕ) → n < F.SLOTS
         → IsNextSlot F.SLOTS (F.state flash.old).words place.old.tried n → place.new.next ≡ n) }
+    ensures is_next { OnOk result (place.old.ready ≡ false → place.old.tried ≤ F.SLOTS
+        → IsNextSlot F.SLOTS (F.state flash.old).words place.old.tried place.new.next) }
     ensures looks { is_fresh place.old ≡ true → (is_fresh place.new ≡ true)
         ⊎ FindsFree F.SLOTS (F.state flash.old).words (free_slots F.SLOTS place.new) }
     ensures begun { OnOk result (place.old.ready ≡ false → 0 < place.new.copied + place.new.behind
         → F.SLOTS ≤ place.new.next + lead_of F.PAGES F.SECTORS) }
+    ensures furthest { OnOk result (place.old.ready ≡ false → F.SLOTS ≤ place.new.next + lead_of F.PAGES F.SECTORS
+        → FindsFurthest F.PAGES F.SLOTS F.SECTORS F.sector_start (F.state flash.old).words place.new.turn place.new.next
+        (extra_of F.PAGES F.SLOTS F.SECTORS) place.new.erased place.new.copied place.new.older) }
     ensures paced { (extra : ℕ) → place.old.ready ≡ false → lead_of F.PAGES F.SECTORS < free_slots F.SLOTS place.new
         → KeepsPace F.PAGES F.SLOTS F.SECTORS extra place.new }
     ensures in_pace { OnOk result ((extra : ℕ) → extra ≤ extra_of F.PAGES F.SLOTS F.SECTORS
@@ -158,6 +166,15 @@ fn catch_up<F: Flash>(flash: &mut F, place: &mut PageMap<F::Table>) -> Result<()
         → WillTake F.SLOTS (log_value F.PAGES F.SLOTS F.SECTORS (F.state flash.old) place.old) n
         → FindsNext F.SLOTS n (log_value F.PAGES F.SLOTS F.SECTORS (F.state flash.old) place.old)
         (log_value F.PAGES F.SLOTS F.SECTORS (F.state flash.new) place.new) }
+    ensures steps { OnOk result ((extra : ℕ) → IsRoomy F.PAGES F.SLOTS F.SECTORS extra
+        → KeepsPace F.PAGES F.SLOTS F.SECTORS extra place.old
+        → steps_left F.PAGES F.SECTORS place.new ≡ steps_left F.PAGES F.SECTORS place.old) }
+    ensures turn { turn_of F.SLOTS (F.state flash.new).words ≡ turn_of F.SLOTS (F.state flash.old).words }
+    ensures begins { (extra n : ℕ)
+        → IsRoomy F.PAGES F.SLOTS F.SECTORS (extra + failed_since (F.state flash.old) (F.state flash.new))
+        → WillKeepPace F.PAGES F.SLOTS F.SECTORS F.sector_start (F.state flash.old).words extra place.old
+        → BeginsBy F.SLOTS (log_value F.PAGES F.SLOTS F.SECTORS (F.state flash.old) place.old) n
+        → BeginsBy F.SLOTS (log_value F.PAGES F.SLOTS F.SECTORS (F.state flash.new) place.new) n }
     ensures light { Tries 1 (F.state flash.old) (F.state flash.new) result }
     ensures work { Costs 2 2 (F.state flash.old) (F.state flash.new) }
     ensures erases { (F.state flash.new).erases ≡ (F.state flash.old).erases }
@@ -231,6 +248,7 @@ pub fn prepare<F: Flash>(flash: &mut F, place: &mut PageMap<F::Table>) -> Result
         ≡ words_of F.PAGES F.SLOTS (F.state flash.old).words }
     ensures log { IsLog F.Table.entries F.PAGES F.SLOTS F.SECTORS F.sector_start (F.state flash.new).words place.new }
     ensures ready { OnOk result (place.new.ready ≡ true) }
+    ensures unready { OnErr result (place.new.ready ≡ false) }
     ensures older { OnOk result (place.new.older ≡ 0) }
     ensures room { OnOk result (place.new.next < F.SLOTS) }
     ensures light { Tries 1 (F.state flash.old) (F.state flash.new) result }
@@ -254,6 +272,17 @@ pub fn prepare<F: Flash>(flash: &mut F, place: &mut PageMap<F::Table>) -> Result
         → WillTake F.SLOTS (log_value F.PAGES F.SLOTS F.SECTORS (F.state flash.old) place.old) n
         → FindsNext F.SLOTS n (log_value F.PAGES F.SLOTS F.SECTORS (F.state flash.old) place.old)
         (log_value F.PAGES F.SLOTS F.SECTORS (F.state flash.new) place.new) }
+    ensures steps { OnOk result ((extra : ℕ) → IsRoomy F.PAGES F.SLOTS F.SECTORS extra
+        → (F.state flash.new).faults ≡ (F.state flash.old).faults
+        → KeepsPace F.PAGES F.SLOTS F.SECTORS extra place.old → F.SLOTS ≤ place.old.next + lead_of F.PAGES F.SECTORS
+        → StaysInArea F.SLOTS (F.state flash.old).words (F.state flash.new).words
+        → steps_left F.PAGES F.SECTORS place.new + 1 ≤ steps_left F.PAGES F.SECTORS place.old) }
+    ensures begins { (extra n : ℕ)
+        → IsRoomy F.PAGES F.SLOTS F.SECTORS (extra + failed_since (F.state flash.old) (F.state flash.new))
+        → WillKeepPace F.PAGES F.SLOTS F.SECTORS F.sector_start (F.state flash.old).words extra place.old
+        → StaysInArea F.SLOTS (F.state flash.old).words (F.state flash.new).words
+        → BeginsBy F.SLOTS (log_value F.PAGES F.SLOTS F.SECTORS (F.state flash.old) place.old) n
+        → BeginsBy F.SLOTS (log_value F.PAGES F.SLOTS F.SECTORS (F.state flash.new) place.new) n }
     ensures lost { (extra : ℕ) → IsRoomy F.PAGES F.SLOTS F.SECTORS extra
         → (F.state flash.new).faults ≡ (F.state flash.old).faults
         → WillKeepPace F.PAGES F.SLOTS F.SECTORS F.sector_start (F.state flash.old).words extra place.old

@@ -7,11 +7,12 @@ ghost use Rattle.flash_device.specs.FlashBlocks.{steps_of};
 ghost use Rattle.flash_device.specs.FlashCalls.{Costs, Lights, Tries};
 ghost use Rattle.flash_device.specs.FlashLogs.{base_in, find, turn_of, words_of};
 ghost use Rattle.flash_moves.specs.Paces.{CopiesNoPageAt, HasStepped, IsBrief, IsInPace, IsRoomy, KeepsPace, OwnsOlder};
-ghost use Rattle.flash_moves.specs.Paces.{Pauses, RegainsSlots, TakesSlot, WillKeepPace, extra_of, extra_slots};
+ghost use Rattle.flash_moves.specs.Paces.{Pauses, RegainsSlots, StaysInArea, TakesSlot, WillKeepPace, extra_of};
+ghost use Rattle.flash_moves.specs.Paces.{extra_slots};
 ghost use Rattle.flash_moves.specs.Paces.{failed_since, free_slots, lead_of, lost_since, move_steps_of};
 ghost use Rattle.flash_moves.specs.Paces.{steps_left as steps_left_of};
 ghost use Rattle.flash_moves.specs.Places.{FindsFree, IsLog, log_value};
-ghost use Rattle.flash_log.specs.SlotsInTurn.{TakesInTurn, WillTake};
+ghost use Rattle.flash_log.specs.SlotsInTurn.{BeginsBy, GivesUp, TakesInTurn, WillTake};
 ghost use Rattle.flash_moves.specs.declared.ahead.TheConstants.{TRIES};
 
 use crate::steps::{find_pages, prepare};
@@ -53,6 +54,7 @@ fn keep_own<F: Flash>(place: &mut PageMap<F::Table>, page: u16)
     ensures same { (place.new.ready ≡ place.old.ready) × (place.new.next ≡ place.old.next)
         × (place.new.tried ≡ place.old.tried) }
     ensures own { place.old.next + move_steps_of F.PAGES F.SECTORS < F.SLOTS → OwnsOlder page place.new }
+    ensures full { F.SLOTS ≤ place.old.next + move_steps_of F.PAGES F.SECTORS → place.new ≡ place.old }
     ensures paced { (extra : ℕ) → KeepsPace F.PAGES F.SLOTS F.SECTORS extra place.old
         → KeepsPace F.PAGES F.SLOTS F.SECTORS extra place.new }
 {
@@ -107,6 +109,8 @@ fn put_next<F: Flash>(
         → TakesInTurn F.SLOTS place.old.next 1
         (log_value F.PAGES F.SLOTS F.SECTORS (F.state flash.old) place.old)
         (log_value F.PAGES F.SLOTS F.SECTORS (F.state flash.new) place.new) }
+    ensures step { steps_left_of F.PAGES F.SECTORS place.new ≡ steps_left_of F.PAGES F.SECTORS place.old }
+    ensures turn { turn_of F.SLOTS (F.state flash.new).words ≡ turn_of F.SLOTS (F.state flash.old).words }
     ensures last { OnOk result (find (F.state flash.new).words
         (base_in F.SLOTS (turn_of F.SLOTS (F.state flash.new).words)) F.SLOTS page
         ≡ F.SLOTS - free_slots F.SLOTS place.new) }
@@ -149,6 +153,8 @@ fn write_once<F: Flash>(
     ensures done { OnOk result (words_of F.PAGES F.SLOTS (F.state flash.new).words
         ≡ written (words_of F.PAGES F.SLOTS (F.state flash.old).words) (16 * page + first) words.now) }
     ensures log { IsLog F.Table.entries F.PAGES F.SLOTS F.SECTORS F.sector_start (F.state flash.new).words place.new }
+    ensures ready { OnOk result (place.new.ready ≡ true) }
+    ensures unready { OnErr result (place.new.ready ≡ false) }
     ensures light { Tries 1 (F.state flash.old) (F.state flash.new) result }
     ensures work { Costs (2 * F.PAGES + 40 + F.SECTORS) 2 (F.state flash.old) (F.state flash.new) }
     // The program of a record that failed leaves two for its next try.
@@ -175,6 +181,17 @@ fn write_once<F: Flash>(
     ensures once { (n : ℕ) → n + lead_of F.PAGES F.SECTORS < F.SLOTS
         → WillTake F.SLOTS (log_value F.PAGES F.SLOTS F.SECTORS (F.state flash.old) place.old) n
         → (F.state flash.new).faults ≤ (F.state flash.old).faults + 1 }
+    ensures steps { OnOk result ((extra : ℕ) → IsRoomy F.PAGES F.SLOTS F.SECTORS extra
+        → (F.state flash.new).faults ≡ (F.state flash.old).faults
+        → KeepsPace F.PAGES F.SLOTS F.SECTORS extra place.old → F.SLOTS ≤ place.old.next + lead_of F.PAGES F.SECTORS
+        → StaysInArea F.SLOTS (F.state flash.old).words (F.state flash.new).words
+        → steps_left_of F.PAGES F.SECTORS place.new + 1 ≤ steps_left_of F.PAGES F.SECTORS place.old) }
+    ensures begins { (extra n : ℕ)
+        → IsRoomy F.PAGES F.SLOTS F.SECTORS (extra + failed_since (F.state flash.old) (F.state flash.new))
+        → WillKeepPace F.PAGES F.SLOTS F.SECTORS F.sector_start (F.state flash.old).words extra place.old
+        → StaysInArea F.SLOTS (F.state flash.old).words (F.state flash.new).words
+        → BeginsBy F.SLOTS (log_value F.PAGES F.SLOTS F.SECTORS (F.state flash.old) place.old) n
+        → BeginsBy F.SLOTS (log_value F.PAGES F.SLOTS F.SECTORS (F.state flash.new) place.new) (n + 1) }
     ensures last { OnOk result (find (F.state flash.new).words
         (base_in F.SLOTS (turn_of F.SLOTS (F.state flash.new).words)) F.SLOTS page
         ≡ F.SLOTS - free_slots F.SLOTS place.new) }
@@ -214,6 +231,7 @@ fn write_again<F: Flash>(
 ) -> Result<(), DeviceErr>
     requires lit { (F.state flash.old).dark ≡ false }
     requires log { IsLog F.Table.entries F.PAGES F.SLOTS F.SECTORS F.sector_start (F.state flash.old).words place.old }
+    requires unready { place.old.ready ≡ false }
     requires page { page < F.PAGES }
     requires run { first + length words.now ≤ 16 }
     ensures whole { (words_of F.PAGES F.SLOTS (F.state flash.new).words
@@ -224,6 +242,15 @@ fn write_again<F: Flash>(
         ≡ written (words_of F.PAGES F.SLOTS (F.state flash.old).words) (16 * page + first) words.now) }
     ensures log { IsLog F.Table.entries F.PAGES F.SLOTS F.SECTORS F.sector_start (F.state flash.new).words place.new }
     ensures ready { OnOk result (place.new.ready ≡ true) }
+    // The pages are known behind it only if it gave up.
+    ensures gives_up { IsErrOf result DeviceErr.Fault → place.new.ready ≡ true
+        → GivesUp F.PAGES F.SLOTS F.SECTORS F.sector_start page
+        (log_value F.PAGES F.SLOTS F.SECTORS (F.state flash.new) place.new) }
+    ensures failed_once { IsErrOf result DeviceErr.Fault → place.new.ready ≡ false
+        → (F.state flash.old).faults + 1 ≤ (F.state flash.new).faults }
+    ensures slotted { (n : ℕ) → n + move_steps_of F.PAGES F.SECTORS < F.SLOTS
+        → WillTake F.SLOTS (log_value F.PAGES F.SLOTS F.SECTORS (F.state flash.old) place.old) n
+        → IsErrOf result DeviceErr.Fault → place.new.ready ≡ false }
     // Without a slot it is a Fault too.
     ensures light { Tries 0 (F.state flash.old) (F.state flash.new) result }
     ensures once { (F.state flash.new).faults ≤ (F.state flash.old).faults + 1 }
@@ -237,6 +264,16 @@ fn write_again<F: Flash>(
         → WillTake F.SLOTS (log_value F.PAGES F.SLOTS F.SECTORS (F.state flash.old) place.old) n
         → TakesInTurn F.SLOTS n 1 (log_value F.PAGES F.SLOTS F.SECTORS (F.state flash.old) place.old)
         (log_value F.PAGES F.SLOTS F.SECTORS (F.state flash.new) place.new) }
+    ensures turn { turn_of F.SLOTS (F.state flash.new).words ≡ turn_of F.SLOTS (F.state flash.old).words }
+    ensures begins { (extra n : ℕ) → extra ≤ extra_of F.PAGES F.SLOTS F.SECTORS
+        → WillKeepPace F.PAGES F.SLOTS F.SECTORS F.sector_start (F.state flash.old).words extra place.old
+        → BeginsBy F.SLOTS (log_value F.PAGES F.SLOTS F.SECTORS (F.state flash.old) place.old) n
+        → BeginsBy F.SLOTS (log_value F.PAGES F.SLOTS F.SECTORS (F.state flash.new) place.new) (n + 1) }
+    ensures passes { IsErrOf result DeviceErr.Fault → (extra n : ℕ) → extra ≤ extra_of F.PAGES F.SLOTS F.SECTORS
+        → WillKeepPace F.PAGES F.SLOTS F.SECTORS F.sector_start (F.state flash.old).words extra place.old
+        → BeginsBy F.SLOTS (log_value F.PAGES F.SLOTS F.SECTORS (F.state flash.old) place.old) n
+        → BeginsBy F.SLOTS (log_value F.PAGES F.SLOTS F.SECTORS (F.state flash.new) place.new)
+        (n + ((F.state flash.new).faults - (F.state flash.old).faults)) }
     ensures last { OnOk result (find (F.state flash.new).words
         (base_in F.SLOTS (turn_of F.SLOTS (F.state flash.new).words)) F.SLOTS page
         ≡ F.SLOTS - free_slots F.SLOTS place.new) }
@@ -263,6 +300,7 @@ fn try_again<F: Flash>(
 ) -> Result<(), DeviceErr>
     requires lit { (F.state flash.old).dark ≡ false }
     requires log { IsLog F.Table.entries F.PAGES F.SLOTS F.SECTORS F.sector_start (F.state flash.old).words place.old }
+    requires unready { place.old.ready ≡ false }
     requires page { page < F.PAGES }
     requires run { first + length words.now ≤ 16 }
     ensures whole { (words_of F.PAGES F.SLOTS (F.state flash.new).words
@@ -278,6 +316,10 @@ fn try_again<F: Flash>(
     ensures tries { (n : ℕ) → n + lead_of F.PAGES F.SECTORS ≤ F.SLOTS
         → WillTake F.SLOTS (log_value F.PAGES F.SLOTS F.SECTORS (F.state flash.old) place.old) n
         → IsErrOf result DeviceErr.Fault → (F.state flash.old).faults + TRIES ≤ (F.state flash.new).faults + 1 }
+    ensures gives_up { IsErrOf result DeviceErr.Fault
+        → ((F.state flash.old).faults + TRIES ≤ (F.state flash.new).faults + 1)
+        ⊎ GivesUp F.PAGES F.SLOTS F.SECTORS F.sector_start page
+        (log_value F.PAGES F.SLOTS F.SECTORS (F.state flash.new) place.new) }
     ensures work { Costs 2 2 (F.state flash.old) (F.state flash.new) }
     ensures erases { (F.state flash.new).erases ≡ (F.state flash.old).erases }
     ensures slots { (n : ℕ) → n + lead_of F.PAGES F.SECTORS ≤ F.SLOTS
@@ -285,6 +327,17 @@ fn try_again<F: Flash>(
         → TakesInTurn F.SLOTS n (1 + ((F.state flash.new).faults - (F.state flash.old).faults))
         (log_value F.PAGES F.SLOTS F.SECTORS (F.state flash.old) place.old)
         (log_value F.PAGES F.SLOTS F.SECTORS (F.state flash.new) place.new) }
+    ensures turn { turn_of F.SLOTS (F.state flash.new).words ≡ turn_of F.SLOTS (F.state flash.old).words }
+    ensures begins { (extra n : ℕ) → extra ≤ extra_of F.PAGES F.SLOTS F.SECTORS
+        → WillKeepPace F.PAGES F.SLOTS F.SECTORS F.sector_start (F.state flash.old).words extra place.old
+        → BeginsBy F.SLOTS (log_value F.PAGES F.SLOTS F.SECTORS (F.state flash.old) place.old) n
+        → BeginsBy F.SLOTS (log_value F.PAGES F.SLOTS F.SECTORS (F.state flash.new) place.new)
+        (n + 1 + ((F.state flash.new).faults - (F.state flash.old).faults)) }
+    ensures passes { IsErrOf result DeviceErr.Fault → (extra n : ℕ) → extra ≤ extra_of F.PAGES F.SLOTS F.SECTORS
+        → WillKeepPace F.PAGES F.SLOTS F.SECTORS F.sector_start (F.state flash.old).words extra place.old
+        → BeginsBy F.SLOTS (log_value F.PAGES F.SLOTS F.SECTORS (F.state flash.old) place.old) n
+        → BeginsBy F.SLOTS (log_value F.PAGES F.SLOTS F.SECTORS (F.state flash.new) place.new)
+        (n + ((F.state flash.new).faults - (F.state flash.old).faults)) }
     ensures last { OnOk result (find (F.state flash.new).words
         (base_in F.SLOTS (turn_of F.SLOTS (F.state flash.new).words)) F.SLOTS page
         ≡ F.SLOTS - free_slots F.SLOTS place.new) }
@@ -297,6 +350,10 @@ fn try_again<F: Flash>(
             Ok(()) => return Ok(()),
             Err(DeviceErr::PowerLost) => return Err(DeviceErr::PowerLost),
             Err(DeviceErr::Fault) => {}
+        }
+        // The pages are known: the record had no slot.
+        if place.ready {
+            return Err(DeviceErr::Fault);
         }
     }
     Err(DeviceErr::Fault)
@@ -322,10 +379,16 @@ pub fn write_at<F: Flash>(
     ensures done { OnOk result (words_of F.PAGES F.SLOTS (F.state flash.new).words
         ≡ written (words_of F.PAGES F.SLOTS (F.state flash.old).words) (16 * page + first) words.now) }
     ensures log { IsLog F.Table.entries F.PAGES F.SLOTS F.SECTORS F.sector_start (F.state flash.new).words place.new }
+    ensures ready { OnOk result (place.new.ready ≡ true) }
     ensures light { Tries 1 (F.state flash.old) (F.state flash.new) result }
     ensures keeps_trying { (n : ℕ) → n + lead_of F.PAGES F.SECTORS < F.SLOTS
         → WillTake F.SLOTS (log_value F.PAGES F.SLOTS F.SECTORS (F.state flash.old) place.old) n
         → Tries TRIES (F.state flash.old) (F.state flash.new) result }
+    // It may give up before where a move needs all slots that are left, or another page's copy is older.
+    ensures gives_up { IsErrOf result DeviceErr.Fault
+        → ((F.state flash.old).faults + TRIES ≤ (F.state flash.new).faults)
+        ⊎ GivesUp F.PAGES F.SLOTS F.SECTORS F.sector_start page
+        (log_value F.PAGES F.SLOTS F.SECTORS (F.state flash.new) place.new) }
     ensures work { Costs (2 * F.PAGES + 40 + F.SECTORS) 2 (F.state flash.old) (F.state flash.new) }
     ensures pause { (extra : ℕ)
         → IsRoomy F.PAGES F.SLOTS F.SECTORS (extra + failed_since (F.state flash.old) (F.state flash.new))
@@ -343,6 +406,26 @@ pub fn write_at<F: Flash>(
         → TakesInTurn F.SLOTS n (1 + ((F.state flash.new).faults - (F.state flash.old).faults))
         (log_value F.PAGES F.SLOTS F.SECTORS (F.state flash.old) place.old)
         (log_value F.PAGES F.SLOTS F.SECTORS (F.state flash.new) place.new) }
+    ensures steps { OnOk result ((extra : ℕ) → IsRoomy F.PAGES F.SLOTS F.SECTORS extra
+        → (F.state flash.new).faults ≡ (F.state flash.old).faults
+        → KeepsPace F.PAGES F.SLOTS F.SECTORS extra place.old → F.SLOTS ≤ place.old.next + lead_of F.PAGES F.SECTORS
+        → StaysInArea F.SLOTS (F.state flash.old).words (F.state flash.new).words
+        → steps_left_of F.PAGES F.SECTORS place.new + 1 ≤ steps_left_of F.PAGES F.SECTORS place.old) }
+    // In pace each try passes over one slot at most, unless the pages move to the other area.
+    ensures begins { (extra n : ℕ)
+        → IsRoomy F.PAGES F.SLOTS F.SECTORS (extra + failed_since (F.state flash.old) (F.state flash.new))
+        → WillKeepPace F.PAGES F.SLOTS F.SECTORS F.sector_start (F.state flash.old).words extra place.old
+        → StaysInArea F.SLOTS (F.state flash.old).words (F.state flash.new).words
+        → BeginsBy F.SLOTS (log_value F.PAGES F.SLOTS F.SECTORS (F.state flash.old) place.old) n
+        → BeginsBy F.SLOTS (log_value F.PAGES F.SLOTS F.SECTORS (F.state flash.new) place.new)
+        (n + 1 + ((F.state flash.new).faults - (F.state flash.old).faults)) }
+    ensures passes { IsErrOf result DeviceErr.Fault → (extra n : ℕ)
+        → IsRoomy F.PAGES F.SLOTS F.SECTORS (extra + failed_since (F.state flash.old) (F.state flash.new))
+        → WillKeepPace F.PAGES F.SLOTS F.SECTORS F.sector_start (F.state flash.old).words extra place.old
+        → StaysInArea F.SLOTS (F.state flash.old).words (F.state flash.new).words
+        → BeginsBy F.SLOTS (log_value F.PAGES F.SLOTS F.SECTORS (F.state flash.old) place.old) n
+        → BeginsBy F.SLOTS (log_value F.PAGES F.SLOTS F.SECTORS (F.state flash.new) place.new)
+        (n + ((F.state flash.new).faults - (F.state flash.old).faults)) }
     ensures tries { (n : ℕ) → n + lead_of F.PAGES F.SECTORS + TRIES ≤ F.SLOTS
         → WillTake F.SLOTS (log_value F.PAGES F.SLOTS F.SECTORS (F.state flash.old) place.old) n
         → (F.state flash.new).faults ≤ (F.state flash.old).faults + TRIES }

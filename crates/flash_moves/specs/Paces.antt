@@ -9,12 +9,12 @@ use Rattle.flash_device.specs.FlashBlocks.{steps_of}
 use Rattle.flash_device.specs.FlashCalls.{Costs, FlashState}
 use Rattle.flash_device.specs.FlashLogs.{base_in, turn_of, words_of}
 use Rattle.flash_device.specs.PageTables.{AreFree}
-use Rattle.flash_area.specs.Spares.{HasCopies, IsSpare, StepsFit, copies_most, spare_in}
+use Rattle.flash_area.specs.Spares.{HasCopies, IsSpare, StepsFit, copies_most, spare_in, steps_from}
 
 -- All that contracts know of a log: its flash, with the words of the board in place of its own, whether it is in pace,
 -- how many slots of the other area steps took that lost power or failed, whether it knows the pages, up to which slot
--- writes were tried, whether it has yet to look for the pages since power-on, how many free slots it knows, and the
--- flash's own words.
+-- writes were tried, whether it has yet to look for the pages since power-on, how many free slots it knows, how many
+-- steps it knows to be left of the move, and the flash's own words.
 pub record LogState : Type 0 where
   pub flash : FlashState
   pub paced : Bool
@@ -23,6 +23,7 @@ pub record LogState : Type 0 where
   pub tried : ℕ
   pub fresh : Bool
   pub free : ℕ
+  pub left : ℕ
   pub raw : List ℕ
 
 -- The most steps that a move takes. The first one may pass the turn to the witness.
@@ -58,10 +59,13 @@ failed_since old new = failed_slots * (new.faults - old.faults)
 abbrev pub lost_since : FlashState → FlashState → ℕ
 lost_since old new = failed_since old new + lost_slots * (old.due - new.due)
 
--- The steps that are left until the pages have moved. From turn 1 the first one passes the turn to the witness.
+-- the steps that are left until the pages have moved
 abbrev pub steps_left : {T : Type 0} → ℕ → ℕ → PageMap T → ℕ
-steps_left pages sectors p =
-    (if nat_eq p.turn 1 then 1 else 0) + (sectors - p.erased) + (steps_of pages - p.copied)
+steps_left pages sectors p = steps_from pages sectors p.turn p.erased p.copied
+
+-- these as far as the log knows them
+abbrev pub known_steps : {T : Type 0} → ℕ → ℕ → PageMap T → ℕ
+known_steps pages sectors p = if p.ready then steps_left pages sectors p else 0
 
 -- true before the log looks for the pages, from power-on on
 abbrev pub is_fresh : {T : Type 0} → PageMap T → Bool
@@ -216,6 +220,15 @@ abbrev pub KeepsRoom : ℕ → ℕ → List ℕ → List ℕ → Type 0
 KeepsRoom pages slots m after = (n : ℕ) → pages + SPARES ≤ n
     → AreFree m (base_in slots (turn_of slots m)) n slots
     → AreFree after (base_in slots (turn_of slots after)) n slots
+
+-- Where the area in use is free from a slot on, it stays so, also if the turn passes.
+abbrev pub KeepsHome : ℕ → List ℕ → List ℕ → Type 0
+KeepsHome slots m after = (n : ℕ) → AreFree m (base_in slots (turn_of slots m)) n slots
+    → AreFree after (base_in slots (turn_of slots m)) n slots
+
+-- The area in use is the same.
+abbrev pub StaysInArea : ℕ → List ℕ → List ℕ → Type 0
+StaysInArea slots m after = base_in slots (turn_of slots after) ≡ base_in slots (turn_of slots m)
 
 -- More slots are free than a move begins at: the log knows them, or has yet to look for the pages.
 abbrev pub IsBeforeMove : ℕ → ℕ → ℕ → ℕ → Bool → List ℕ → Type 0

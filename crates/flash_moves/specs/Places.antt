@@ -2,7 +2,7 @@
 use Rattle.std.specs.Prelude.{◌≡◌, ◌<◌, ◌≤◌, ◌+◌, ℕ, true, false, List}
 use Rattle.flash_moves.specs.declared.place.PageMap.{PageMap}
 use Rattle.flash_device.specs.FlashCalls.{FlashState}
-use Rattle.flash_moves.specs.Paces.{LogState, extra_slots, free_slots, is_fresh, is_paced}
+use Rattle.flash_moves.specs.Paces.{LogState, extra_slots, free_slots, is_fresh, is_paced, known_steps}
 use Rattle.flash_device.specs.PageTables.{IsPageTable, AreFree}
 use Rattle.flash_device.specs.FlashLogs.{base_in, turn_of, words_of}
 use Rattle.flash_moves.specs.Rings.{IsRing}
@@ -46,6 +46,7 @@ log_value pages slots sectors s p = record {
   tried = p.tried;
   fresh = is_fresh p;
   free = free_slots slots p;
+  left = known_steps pages sectors p;
   raw = s.words;
 }
 
@@ -59,6 +60,7 @@ new_log pages slots s = record {
   tried = 0;
   fresh = true;
   free = 0;
+  left = 0;
   raw = s.words;
 }
 

@@ -1,12 +1,11 @@
 //! The move to the other area, a step at each write: so that no write has to move all pages.
-ghost use Rattle.std.specs.Prelude.{◌≡◌, ◌≢◌, ◌<◌, ◌≤◌, ◌+◌, ◌-◌, ◌*◌, ℕ, true, false, length, slice_index};
+ghost use Rattle.std.specs.Prelude.{◌≡◌, ◌≢◌, ◌<◌, ◌≤◌, ◌+◌, ◌-◌, ◌*◌, ℕ, true, false, slice_index};
 ghost use Rattle.std.specs.Prelude.{IfOk, OnErr, OnOk};
-ghost use Rattle.flash_device.specs.FlashBlocks.{area_size};
 ghost use Rattle.flash_device.specs.FlashCalls.{Costs, SameElsewhere, Tries};
 ghost use Rattle.flash_device.specs.FlashLogs.{base_in, close_b, close_of, find, turn_of, words_of};
 ghost use Rattle.flash_device.specs.FlashLogs.{is_marked as has_mark};
 ghost use Rattle.flash_moves.specs.Paces.{EndsStep, HasStepped, HasMoved, IsCaughtUp, IsInPace, IsRoomy, KeepsFree};
-ghost use Rattle.flash_moves.specs.Paces.{KeepsRoom};
+ghost use Rattle.flash_moves.specs.Paces.{KeepsHome, KeepsRoom, StaysInArea};
 ghost use Rattle.flash_moves.specs.Paces.{MovesWell, StandsSo, StaysCopied, failed_since, lead_of, lost_since};
 ghost use Rattle.flash_moves.specs.Paces.{move_steps_of};
 ghost use Rattle.flash_device.specs.PageTables.{IsPageTable};
@@ -137,6 +136,9 @@ pub fn pass_turn<F: Flash>(flash: &mut F, place: &mut PageMap<F::Table>) -> Resu
     ensures older { OnOk result (place.new.older ≡ 0) }
     // A close that fails may have passed the turn, so no slot counts as tried.
     ensures unready { OnErr result ((place.new.ready ≡ false) × (place.new.tried ≡ 0)) }
+    ensures tried { place.new.tried ≡ 0 }
+    ensures turned { OnOk result (base_in F.SLOTS (turn_of F.SLOTS (F.state flash.new).words)
+        ≡ spare_in F.SLOTS place.old.turn) }
     ensures elsewhere { SameElsewhere (F.state flash.old).words (close_of F.SLOTS place.old.turn) 2
         (F.state flash.new).words }
     ensures light { Tries 1 (F.state flash.old) (F.state flash.new) result }
@@ -175,6 +177,8 @@ pub fn pass_on<F: Flash>(flash: &mut F, place: &mut PageMap<F::Table>) -> Result
     ensures older { place.new.older ≡ 0 }
     ensures area { SameElsewhere (F.state flash.old).words (close_b F.SLOTS) 4 (F.state flash.new).words }
     ensures mark { OnOk result (has_mark (F.state flash.new).words (close_b F.SLOTS) ≡ true) }
+    ensures tried { place.new.tried ≡ place.old.tried }
+    ensures home { KeepsHome F.SLOTS (F.state flash.old).words (F.state flash.new).words }
     ensures keeps_free { KeepsFree F.PAGES F.SLOTS (F.state flash.old) (F.state flash.new) }
     ensures keeps_room { KeepsRoom F.PAGES F.SLOTS (F.state flash.old).words (F.state flash.new).words }
     ensures stands { (extra : ℕ) → IsCaughtUp F.PAGES F.SLOTS F.SECTORS extra place.old
@@ -206,7 +210,10 @@ fn erase_next<F: Flash>(flash: &mut F, place: &mut PageMap<F::Table>) -> Result<
     ensures log { IsLog F.Table.entries F.PAGES F.SLOTS F.SECTORS F.sector_start (F.state flash.new).words place.new }
     ensures ready { OnOk result (place.new.ready ≡ true) }
     ensures step { OnOk result (place.new ≡ record place.old { ready = true; erased = place.old.erased + 1 }) }
+    ensures unready { OnErr result (place.new.ready ≡ false) }
     ensures older { place.new.older ≡ place.old.older }
+    ensures tried { place.new.tried ≡ place.old.tried }
+    ensures home { KeepsHome F.SLOTS (F.state flash.old).words (F.state flash.new).words }
     ensures stands { (extra : ℕ) → IsCaughtUp F.PAGES F.SLOTS F.SECTORS extra place.old
         → StandsSo F.PAGES F.SLOTS F.SECTORS F.sector_start (F.state flash.new).words extra place.new
         (HasStepped F.PAGES F.SLOTS F.SECTORS extra place.new) }
@@ -232,7 +239,13 @@ fn copy_next<F: Flash>(flash: &mut F, place: &mut PageMap<F::Table>) -> Result<(
         ≡ words_of F.PAGES F.SLOTS (F.state flash.old).words }
     ensures log { IsLog F.Table.entries F.PAGES F.SLOTS F.SECTORS F.sector_start (F.state flash.new).words place.new }
     ensures ready { OnOk result (place.new.ready ≡ true) }
+    ensures unready { OnErr result (place.new.ready ≡ false) }
     ensures older { OnOk result (place.new.older ≡ 0) }
+    ensures tried { place.new.tried ≤ place.old.tried }
+    ensures home { KeepsHome F.SLOTS (F.state flash.old).words (F.state flash.new).words }
+    // In the same area no slot is passed.
+    ensures next { OnOk result (StaysInArea F.SLOTS (F.state flash.old).words (F.state flash.new).words
+        → place.new.next ≡ place.old.next) }
     ensures steps { OnOk result ((extra : ℕ)
         → IsRoomy F.PAGES F.SLOTS F.SECTORS (extra + failed_since (F.state flash.old) (F.state flash.new))
         → IsCaughtUp F.PAGES F.SLOTS F.SECTORS extra place.old
@@ -281,7 +294,13 @@ pub fn take_step<F: Flash>(flash: &mut F, place: &mut PageMap<F::Table>) -> Resu
         ≡ words_of F.PAGES F.SLOTS (F.state flash.old).words }
     ensures log { IsLog F.Table.entries F.PAGES F.SLOTS F.SECTORS F.sector_start (F.state flash.new).words place.new }
     ensures ready { OnOk result (place.new.ready ≡ true) }
+    ensures unready { OnErr result (place.new.ready ≡ false) }
     ensures older { OnOk result (place.new.older ≡ 0) }
+    ensures tried { place.new.tried ≤ place.old.tried }
+    ensures home { KeepsHome F.SLOTS (F.state flash.old).words (F.state flash.new).words }
+    // In the same area no slot is passed.
+    ensures next { OnOk result (StaysInArea F.SLOTS (F.state flash.old).words (F.state flash.new).words
+        → place.new.next ≡ place.old.next) }
     ensures steps { OnOk result ((extra : ℕ)
         → IsRoomy F.PAGES F.SLOTS F.SECTORS (extra + failed_since (F.state flash.old) (F.state flash.new))
         → IsCaughtUp F.PAGES F.SLOTS F.SECTORS extra place.old

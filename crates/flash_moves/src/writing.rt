@@ -4,7 +4,8 @@ ghost use Rattle.nvm_board.specs.History.{written};
 ghost use Rattle.flash_device.specs.FlashCalls.{Costs, Lights, SameElsewhere, Tries};
 ghost use Rattle.flash_device.specs.PageTables.{IsPageTable, AreFree};
 ghost use Rattle.flash_device.specs.FlashLogs.{base_in, find, slot_of, turn_of, words_of};
-ghost use Rattle.flash_moves.specs.Paces.{IsCaughtUp, IsInPace, IsRoomy, KeepsPace, StandsSo, failed_since, lost_since};
+ghost use Rattle.flash_moves.specs.Paces.{IsCaughtUp, IsInPace, IsRoomy, KeepsHome, KeepsPace, StandsSo};
+ghost use Rattle.flash_moves.specs.Paces.{failed_since, lost_since, steps_left};
 ghost use Rattle.flash_moves.specs.Places.{IsLog};
 ghost use Rattle.flash_moves.specs.Rings.{SameMarks};
 
@@ -70,6 +71,11 @@ pub fn copy_older<F: Flash>(flash: &mut F, place: &mut PageMap<F::Table>) -> Res
     ensures older { OnOk result (place.new.older ≡ 0) }
     ensures unready { OnErr result (place.new.ready ≡ false) }
     ensures next { place.new.next ≡ place.old.next }
+    ensures steps { OnOk result (place.old.behind < F.SLOTS
+        → steps_left F.PAGES F.SECTORS place.new ≡ steps_left F.PAGES F.SECTORS place.old) }
+    ensures tried { place.new.tried ≡ place.old.tried }
+    ensures turn { turn_of F.SLOTS (F.state flash.new).words ≡ turn_of F.SLOTS (F.state flash.old).words }
+    ensures home { KeepsHome F.SLOTS (F.state flash.old).words (F.state flash.new).words }
     ensures stands { (extra : ℕ)
         → IsRoomy F.PAGES F.SLOTS F.SECTORS (extra + failed_since (F.state flash.old) (F.state flash.new))
         → KeepsPace F.PAGES F.SLOTS F.SECTORS extra place.old

@@ -1,7 +1,7 @@
 -- Laws of how far a move has come, by what the flash holds.
 use Rattle.std.specs.Prelude.{◌≡◌, ◌≢◌, ◌⊎◌, ◌<◌, ◌≤◌, ◌+◌, ◌-◌, ◌*◌, ℕ, Bool, true, false, List, slice_index}
 use Rattle.std.specs.Prelude.{nat_eq, if◌then◌else◌}
-use Rattle.std.proofs.Common.{refl, sym, ◌∙◌, ap, ⊎_elim, subst, arith, true≢false}
+use Rattle.std.proofs.Common.{refl, sym, ◌∙◌, ap, inl, inr, ⊎_elim, subst, arith, true≢false}
 use Rattle.std.proofs.lemmas.Bool.{cases_eq, cases_lt, ne_eqb}
 use Rattle.nvm_board.specs.declared.board.TheConstants.{LEAST_PAGES}
 use Rattle.flash_device.specs.declared.flash.TheConstants.{BLANK}
@@ -11,9 +11,10 @@ use Rattle.flash_device.specs.FlashCalls.{AreFilled}
 use Rattle.flash_device.specs.FlashLogs.{base_in, find, is_closed, page_word, turn_of, words_of}
 use Rattle.flash_device.specs.PageTables.{AreFree, IsFirstFreeSlot, IsPageTable}
 use Rattle.flash_device.specs.laws.Rising.{rises_to}
-use Rattle.flash_area.specs.ProgressParts.{HasNoCopies, IsBestCopies, IsBlankCount, IsCopyCount, IsFirstUsed}
-use Rattle.flash_area.specs.ProgressParts.{IsPagesEnd, IsSameCount}
-use Rattle.flash_area.specs.Spares.{HasCopies, IsSpare, KeepsSteps, copies_most, spare_in, spare_sector}
+use Rattle.flash_area.specs.ProgressParts.{AllButOne, HasNoCopies, IsBestCopies, IsBlankCount, IsCopyCount}
+use Rattle.flash_area.specs.ProgressParts.{IsFirstUsed, IsPagesEnd, IsSameCount}
+use Rattle.flash_area.specs.Spares.{FindsFurthest, HasCopies, IsFurthest, IsSpare, KeepsSteps, MoveBeginsAnew}
+use Rattle.flash_area.specs.Spares.{copies_most, spare_in, spare_sector}
 use Rattle.flash_area.specs.laws.Erased.{copies_none}
 use Rattle.flash_area.specs.laws.Sectors.{spare_end, spare_first}
 use Rattle.flash_area.specs.laws.Words.{index-page}
@@ -54,6 +55,7 @@ module _ (pages slots : ℕ) (m : List ℕ) (from to : ℕ) where
     few = omega arith;
     same = λ p lt other. count.same p (omega arith) (omega (arith, lt, within));
     all = λ c o lt but. all c lt (omega (arith, lt, is, whole));
+    same_older = λ c o more but. inl refl;
   }
 
   -- one page differs, and then the next
@@ -92,6 +94,13 @@ module _ (pages slots : ℕ) (m : List ℕ) (from to : ℕ) where
         (cases_eq (first + 1) o))
         (λ (fits : STEP_PAGES * c ≤ n). fits)
         (cases_lt n (STEP_PAGES * c)));
+    same_older = λ c o more but. ⊎_elim
+        (λ (lt : first < STEP_PAGES * copied). ⊎_elim
+        (λ (e : first + 1 ≡ o). inr (one lt ∙ e))
+        (λ (other : first + 1 ≢ o). absurd (before.differs differs (but first (omega (arith, lt, more)) other)))
+        (cases_eq (first + 1) o))
+        (λ (ge : STEP_PAGES * copied ≤ first). inl (none ge))
+        (cases_lt first (STEP_PAGES * copied));
   }
 
 module _ (pages slots sectors : ℕ) (start : ℕ → ℕ) (m : List ℕ) (turn : ℕ) where
@@ -122,15 +131,18 @@ module _ (pages slots sectors : ℕ) (start : ℕ → ℕ) (m : List ℕ) (turn 
         (home : IsPageTable pages m (base_in slots turn) slots table)
         (index : IsPageTable pages m (spare_in slots turn) slots other) (ends : IsPagesEnd pages table other end)
         (first : IsFirstFreeSlot m (spare_in slots turn) behind slots) where
+      -- the copies of a progress read the same
+      read_same : (c b o : ℕ) → IsSpare pages slots sectors start m (words_of pages slots m) turn sectors c b o
+          → AllButOne slots m (base_in slots turn) (spare_in slots turn) c o
+      read_same c b o spare = λ p lt but.
+          let most = spare.most in
+          let below : p < pages = omega (arith, lt, most, whole) in
+          record { each = λ k few. (spare.copies refl).each p k lt below but few ∙ word_is p k below few }
+
       -- no more steps have copied than there are pages that read the same
       most_copied : (c b o : ℕ) → IsSpare pages slots sectors start m (words_of pages slots m) turn sectors c b o
           → c ≤ copied
-      most_copied c b o spare =
-          let most = spare.most in
-          let has = spare.copies refl in
-          count.all c o most (λ p lt but.
-          let below : p < pages = omega (arith, lt, most, whole) in
-          record { each = λ k few. has.each p k lt below but few ∙ word_is p k below few })
+      most_copied c b o spare = count.all c o spare.most (read_same c b o spare)
 
       pub found_best : (extra : ℕ) → turn ≢ 1 → is_closed m (spare_in slots turn + 20 * slots) ≡ false
           → end ≤ STEP_PAGES * copied → AreFree m (spare_in slots turn) behind slots
@@ -150,6 +162,7 @@ module _ (pages slots sectors : ℕ) (start : ℕ → ℕ) (m : List ℕ) (turn 
         };
         few = few;
         best = λ c b o spare. (most_copied c b o spare, first.first b (spare.copies refl).free);
+        same_older = λ c b o spare more. count.same_older c o more (read_same c b o spare);
       }
 
       pub found_none : (extra : ℕ) → (is_closed m (spare_in slots turn + 20 * slots) ≡ true)
@@ -259,3 +272,145 @@ module _ (pages slots sectors : ℕ) (start : ℕ → ℕ) (m : List ℕ) (turn 
         (cases_lt e sectors))
         (λ (room : (sectors - n) + steps_of pages + next ≤ slots). (omega arith, omega (arith, room, z)))
         why
+
+    -- a move that has come furthest has the best copies
+    copies_first : (most copied behind older e c b o : ℕ)
+        → IsBestCopies pages slots sectors start m turn most copied behind older
+        → IsFurthest pages slots sectors start m turn most e c b o → (e ≡ sectors) × (c ≡ copied)
+    copies_first most copied behind older e c b o best far =
+        let least = far.fewest sectors copied behind older best.spare best.few in
+        let within = far.spare.within in
+        ⊎_elim
+        (λ (lt : e < sectors). let none = (far.spare.fresh lt).0 in absurd (omega (arith, least, lt, none)))
+        (λ (ge : sectors ≤ e).
+        let same : e ≡ sectors = omega (arith, within, ge) in
+        let more = (best.best c b o
+        (subst (λ (s : ℕ). IsSpare pages slots sectors start m (words_of pages slots m) turn s c b o) same far.spare)).0
+        in
+        let less = far.spare.most in
+        let small = best.spare.most in
+        (same, omega (arith, least, more, less, small, within, ge)))
+        (cases_lt e sectors)
+
+    -- and the best copies have
+    best_first : (most copied behind older : ℕ)
+        → IsBestCopies pages slots sectors start m turn most copied behind older
+        → IsFurthest pages slots sectors start m turn most sectors copied behind older
+    best_first most copied behind older best = record {
+      spare = best.spare;
+      few = best.few;
+      fewest = λ e c b o spare few. ⊎_elim
+          (λ (lt : e < sectors). let none = (spare.fresh lt).0 in omega (arith, none))
+          (λ (ge : sectors ≤ e).
+          let within = spare.within in
+          let same : e ≡ sectors = omega (arith, within, ge) in
+          let more = (best.best c b o
+          (subst (λ (s : ℕ). IsSpare pages slots sectors start m (words_of pages slots m) turn s c b o) same spare)).0
+          in
+          omega (arith, more, same))
+          (cases_lt e sectors);
+    }
+
+    -- a move begins anew behind no more sectors than are blank, if copies lost slots or there are none
+    anew_blank : (n next most e : ℕ) → IsBlankCount sectors start m (spare_sector sectors turn) n
+        → ¬ IsSpare pages slots sectors start m (words_of pages slots m) turn sectors 0 0 0
+        → MoveBeginsAnew pages slots sectors start m turn next most e → e ≤ n
+    anew_blank n next most e count used anew = ⊎_elim
+        (λ (lt : e < sectors). (few_blank n e 0 0 0 count lt anew.can.spare).0)
+        (λ (ge : sectors ≤ e).
+        let within = anew.can.spare.within in
+        let same : e ≡ sectors = omega (arith, within, ge) in
+        absurd (used (subst (λ (s : ℕ). IsSpare pages slots sectors start m (words_of pages slots m) turn s 0 0 0) same
+        anew.can.spare)))
+        (cases_lt e sectors)
+
+    -- copies that lost slots are some
+    lost_used : (most copied behind older : ℕ)
+        → IsBestCopies pages slots sectors start m turn most copied behind older → copies_most copied 0 < behind
+        → ¬ IsSpare pages slots sectors start m (words_of pages slots m) turn sectors 0 0 0
+    lost_used most copied behind older best lost spare =
+        let none = (best.best 0 0 0 spare).1 in omega (arith, none, lost)
+
+    -- The best copies are found, unless the move begins anew.
+    pub copies_furthest : turn ≢ 1 → (n next most copied behind older : ℕ)
+        → IsBlankCount sectors start m (spare_sector sectors turn) n
+        → IsBestCopies pages slots sectors start m turn most copied behind older
+        → (behind ≤ copies_most copied 0) ⊎ (slots < (sectors - n) + steps_of pages + next)
+        → FindsFurthest pages slots sectors start m turn next most sectors copied older
+    copies_furthest moves n next most copied behind older count best why = record {
+      on = λ e c b o on.
+          let is = copies_first most copied behind older e c b o best on.furthest in
+          let all = is.0 in
+          let same = is.1 in (
+            omega (arith, all, same),
+            best.same_older c b o
+                (subst (λ (s : ℕ). IsSpare pages slots sectors start m (words_of pages slots m) turn s c b o) all
+                on.furthest.spare) (omega (arith, same)),
+          );
+      anew = λ e anew.
+          let lost = anew.lost sectors copied behind older (best_first most copied behind older best) in
+          let less = anew_blank n next most e count (lost_used most copied behind older best lost) anew in
+          let fits = anew.can.fits in
+          let z = no_turn moves in
+          absurd (⊎_elim
+          (λ (lean : behind ≤ copies_most copied 0). omega (arith, lean, lost))
+          (λ (full : slots < (sectors - n) + steps_of pages + next). omega (arith, full, fits, less, z))
+          why);
+    }
+
+    pub anew_furthest : turn ≢ 1 → (n next most copied behind older : ℕ)
+        → IsBlankCount sectors start m (spare_sector sectors turn) n
+        → IsBestCopies pages slots sectors start m turn most copied behind older
+        → copies_most copied 0 < behind → (sectors - n) + steps_of pages + next ≤ slots
+        → FindsFurthest pages slots sectors start m turn next most n 0 0
+    anew_furthest moves n next most copied behind older count best lost fits = record {
+      on = λ e c b o on.
+          let is = copies_first most copied behind older e c b o best on.furthest in
+          let all = is.0 in
+          let same = is.1 in
+          let spare = subst (λ (s : ℕ). IsSpare pages slots sectors start m (words_of pages slots m) turn s c b o)
+          all on.furthest.spare in
+          let early = (best.best c b o spare).1 in
+          let z = no_turn moves in
+          absurd (on.stays (omega (arith, lost, same, early)) n (record {
+            spare = blank_spare moves n count;
+            fits = omega (arith, fits, z);
+          }));
+      anew = λ e anew.
+          let less = anew_blank n next most e count (lost_used most copied behind older best lost) anew in
+          (omega (arith, less), refl);
+    }
+
+    -- Without copies it begins behind the sectors that are blank.
+    pub blank_furthest : (n next most : ℕ) → IsBlankCount sectors start m (spare_sector sectors turn) n
+        → HasNoCopies pages slots sectors start m turn most
+        → FindsFurthest pages slots sectors start m turn next most n 0 0
+    blank_furthest n next most count none = record {
+      on = λ e c b o on. ⊎_elim
+          (λ (lt : e < sectors).
+          let few = few_blank n e c b o count lt on.furthest.spare in
+          let less = few.0 in
+          let zero_steps = few.1 in
+          (omega (arith, less, zero_steps), inl refl))
+          (λ (ge : sectors ≤ e).
+          let within = on.furthest.spare.within in
+          let same : e ≡ sectors = omega (arith, within, ge) in
+          absurd (none c b o
+          (subst (λ (s : ℕ). IsSpare pages slots sectors start m (words_of pages slots m) turn s c b o) same
+          on.furthest.spare) on.furthest.few))
+          (cases_lt e sectors);
+      anew = λ e anew.
+          let less = anew_blank n next most e count (λ spare. none 0 0 0 spare (omega arith)) anew in
+          (omega (arith, less), refl);
+    }
+
+  -- In turn 1 no move has begun.
+  pub none_furthest : (next most : ℕ) → turn ≡ 1 → 0 < sectors
+      → FindsFurthest pages slots sectors start m turn next most 0 0 0
+  none_furthest next most one some = record {
+    on = λ e c b o on.
+        let none = on.furthest.spare.idle one in
+        let begun = (on.furthest.spare.fresh (omega (arith, none, some))).0 in
+        (omega (arith, none, begun), inl refl);
+    anew = λ e anew. let none = anew.can.spare.idle one in (omega (arith, none), refl);
+  }

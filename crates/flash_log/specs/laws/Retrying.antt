@@ -1,7 +1,8 @@
 -- Laws of a write whose record is tried again: each try that failed met a Fault.
-use Rattle.std.specs.Prelude.{◌≤◌, ◌+◌, ℕ, Result, Ok, Err, IsOk, OnOk}
+use Rattle.std.specs.Prelude.{◌≤◌, ◌+◌, ℕ, Result, Ok, Err, IsErrOf, IsOk, OnErr, OnOk, is_ok}
 use Rattle.nvm_board.specs.declared.board.DeviceErr.{DeviceErr}
-use Rattle.std.proofs.Common.{refl, sym, ◌∙◌, arith, true≢false}
+use Rattle.nvm_board.specs.declared.board.DeviceErr.TheVariants.{Fault}
+use Rattle.std.proofs.Common.{refl, sym, ap, ◌∙◌, arith, true≢false}
 use Rattle.flash_device.specs.FlashCalls.{FlashState, KeepsPower, Lights, Tries}
 use Rattle.flash_moves.specs.Places.{state_of}
 
@@ -9,6 +10,11 @@ use Rattle.flash_moves.specs.Places.{state_of}
 pub holds_ok : {T E P : Type 0} (r : Result T E) → OnOk r P → IsOk r → P
 holds_ok (Ok x) h ok = h
 holds_ok (Err e) h ok = absurd (true≢false (sym ok))
+
+-- what is so of an error is so of this one
+pub err_holds : {T P : Type 0} (r : Result T DeviceErr) → OnErr r P → IsErrOf r Fault → P
+err_holds (Ok x) h failed = absurd (true≢false (ap is_ok failed))
+err_holds (Err e) h failed = h
 
 pub ok_holds : {T E P : Type 0} (r : Result T E) → (IsOk r → P) → OnOk r P
 ok_holds (Ok x) h = h refl

@@ -15,7 +15,7 @@ use Rattle.flash_moves.specs.Paces.{HasNoStepDue, HasStepped, HasMoved, IsBrief,
 use Rattle.flash_moves.specs.Paces.{IsRoomy, KeepsPace, MovesFound, MovesWell, Pauses, StandsSo, TakesSlot}
 use Rattle.flash_moves.specs.Paces.{WillKeepPace}
 use Rattle.flash_moves.specs.Paces.{extra_of, extra_slots, failed_since, free_slots, is_fresh, is_paced, lead_of}
-use Rattle.flash_moves.specs.Paces.{lost_since, move_steps_of, steps_left}
+use Rattle.flash_moves.specs.Paces.{known_steps, lost_since, move_steps_of, steps_left}
 use Rattle.flash_moves.specs.Places.{IsLog, IsPlaceOf, state_of}
 use Rattle.flash_area.specs.Spares.{IsSpare, KeepsSteps, StepsFit, copies_most}
 
@@ -106,6 +106,10 @@ module _ {T : Type 0} (pages slots sectors : ℕ) where
   -- so many slots are free
   pub free_of : (p : PageMap T) → p.ready ≡ true → free_slots slots p ≡ slots - p.next
   free_of p ready = ap (λ (b : Bool). if b then slots - p.next else 0) ready
+
+  -- so many steps are left
+  pub left_of : (p : PageMap T) → p.ready ≡ true → known_steps pages sectors p ≡ steps_left pages sectors p
+  left_of p ready = ap (λ (b : Bool). if b then steps_left pages sectors p else 0) ready
 
   -- the pages stay where they are found, and no free slot is taken
   pub free_same : (p q : PageMap T) → (p.ready ≡ true → q ≡ p) → free_slots slots p ≤ free_slots slots q

@@ -13,6 +13,7 @@ use Rattle.flash_device.specs.FlashCalls.{SameElsewhere, AreFilled}
 use Rattle.flash_device.specs.FlashLogs.{base_in, close_of, find, is_closed, page_word, slot_of, turn_of, word_of}
 use Rattle.flash_device.specs.FlashLogs.{words_of}
 use Rattle.flash_device.specs.PageTables.{AreFree, IsPageTable}
+use Rattle.flash_moves.specs.Paces.{KeepsHome, StaysInArea}
 use Rattle.flash_moves.specs.Places.{IsLog}
 use Rattle.flash_moves.specs.Rings.{IsRing}
 use Rattle.flash_device.specs.PutRecords.{IsPut}
@@ -44,6 +45,15 @@ module _ (slots : ℕ) where
       by_test true = inl (refl, refl)
       by_test false = inr (refl, refl)
 
+  -- these are two areas
+  pub two_sides : (turn : ℕ) → ¬ (spare_in slots turn ≡ base_in slots turn)
+  two_sides turn same = ⊎_elim
+      (λ (z : (base_in slots turn ≡ 0) × (spare_in slots turn ≡ area_size slots)).
+      let a = z.0 in let b = z.1 in omega (arith, a, b, same))
+      (λ (z : (base_in slots turn ≡ area_size slots) × (spare_in slots turn ≡ 0)).
+      let a = z.0 in let b = z.1 in omega (arith, a, b, same))
+      (sides turn)
+
   -- a change of the slots in use leaves the other area, and the other way round
   pub home_leaves : (m after : List ℕ) (turn : ℕ) → SameElsewhere m (base_in slots turn) (20 * slots) after
       → SameBlock slots m after (spare_in slots turn)
@@ -67,6 +77,24 @@ module _ (slots : ℕ) where
         let x : spare_in slots turn + area_size slots ≤ k = omega (arith, a, b, low) in inr x)
         (sides turn));
   }
+
+  -- an area whose slots are the same keeps those that are free
+  pub area_home : (m after : List ℕ) (turn : ℕ) → turn ≡ turn_of slots m → SameArea slots m after (base_in slots turn)
+      → KeepsHome slots m after
+  area_home m after turn is same n are = area_free slots m after (base_in slots (turn_of slots m))
+      (subst (λ (t : ℕ). SameArea slots m after (base_in slots t)) is same) n are
+
+  -- calls that only read
+  pub home_read : (m after : List ℕ) → after ≡ m → KeepsHome slots m after
+  home_read m after words n are =
+      subst (λ (l : List ℕ). AreFree l (base_in slots (turn_of slots m)) n slots) (sym words) are
+
+  -- one call after another
+  pub home_then : (m mid after : List ℕ) → StaysInArea slots m mid → KeepsHome slots m mid → KeepsHome slots mid after
+      → KeepsHome slots m after
+  home_then m mid after stays first second n are =
+      subst (λ (b : ℕ). AreFree after b n slots) stays
+      (second n (subst (λ (b : ℕ). AreFree mid b n slots) (sym stays) (first n are)))
 
   -- the table and the free slots stay where the area does
   pub index_same : (pages : ℕ) (m after table : List ℕ) (base : ℕ) → SameArea slots m after base

@@ -1,13 +1,14 @@
-use Rattle.std.proofs.Common.{◌≡◌, ◌≤◌, ◌+◌, ◌-◌, ◌∙◌, ℕ, List, true, refl, sym, ap, subst, inr, arith}
+use Rattle.std.proofs.Common.{◌≡◌, ◌<◌, ◌≤◌, ◌+◌, ◌-◌, ◌∙◌, ℕ, List, true, refl, sym, ap, subst, inr, arith}
 use Rattle.std.proofs.lemmas.Result.{on_ok_weaker}
 use Rattle.flash_moves.specs.declared.place.PageMap.{PageMap}
 use Rattle.flash_device.specs.FlashCalls.{FlashState}
 use Rattle.flash_device.specs.FlashLogs.{base_in, turn_of}
 use Rattle.flash_device.specs.PageTables.{AreFree}
-use Rattle.flash_moves.specs.Paces.{IsInPace, KeepsPace, lost_since}
+use Rattle.flash_moves.specs.Paces.{IsInPace, KeepsPace, lost_since, steps_left}
 use Rattle.flash_moves.specs.Places.{FindsFree}
 use Rattle.flash_moves.specs.laws.Lighting.{lights_once}
 use Rattle.flash_moves.specs.laws.Losing.{before_found, none_copied, stands_in_pace}
+use Rattle.flash_log.specs.laws.Beginning.{begins_found, begins_lost, begins_on, tried_within}
 use Rattle.flash_log.specs.laws.TakingTurns.{found_next, lost_next, still_next, was_lost}
 use Rattle.flash_moves.specs.laws.Pacing.{caught_more, free_of, from_more, lost_so, place_in_pace, stands_more}
 use Rattle.flash_log.proofs.steps.catch_up.Goals as goal
@@ -161,3 +162,63 @@ returns-clause-turns g c = λ n far takes.
     (c.find_pages.ensures.paced 0) far takes in
     let still = c.copy_older.ensures.idle found.1 in
     still_next pages slots sectors old mid new p q c.copy_older.new.place n still.0 still.1 found.0
+
+pub returns-in_err-find_pages-clause-turn : goal.returns-in_err-find_pages-clause-turn
+returns-in_err-find_pages-clause-turn g c = ap (turn_of g.F.Flash.SLOTS) c.find_pages.ensures.words
+
+pub returns-clause-turn : goal.returns-clause-turn
+returns-clause-turn g c =
+    c.copy_older.ensures.turn ∙ ap (turn_of g.F.Flash.SLOTS) c.find_pages.ensures.words
+
+pub returns-in_err-find_pages-clause-begins : goal.returns-in_err-find_pages-clause-begins
+returns-in_err-find_pages-clause-begins g c = λ extra n roomy stands begins.
+    let p = c.args.place.now in
+    let q = c.find_pages.new.place in
+    let lost = c.in_err-find_pages.ensures.unready in
+    begins_lost g.F.Flash.PAGES g.F.Flash.SLOTS g.F.Flash.SECTORS (g.F.Flash.state c.args.flash.now)
+    (g.F.Flash.state c.find_pages.new.flash) p q n
+    (was_lost g.F.Flash.PAGES g.F.Flash.SLOTS g.F.Flash.SECTORS p q lost c.find_pages.ensures.known) lost
+    c.find_pages.ensures.tried c.find_pages.ensures.words begins
+
+pub returns-clause-begins : goal.returns-clause-begins
+returns-clause-begins g c = λ extra n roomy stands begins.
+    let slots = g.F.Flash.SLOTS in
+    let pages = g.F.Flash.PAGES in
+    let sectors = g.F.Flash.SECTORS in
+    let start = g.F.Flash.sector_start in
+    let old = g.F.Flash.state c.args.flash.now in
+    let mid = g.F.Flash.state c.find_pages.new.flash in
+    let new = g.F.Flash.state c.copy_older.new.flash in
+    let p = c.args.place.now in
+    let q = c.find_pages.new.place in
+    let known = c.find_pages.ensures.log.known c.in_ok-find_pages.ensures.ready in
+    let here : AreFree mid.words (base_in slots (turn_of slots mid.words)) q.next slots =
+    subst (λ (t : ℕ). AreFree mid.words (base_in slots t) q.next slots) known.turn known.free in
+    let free : AreFree old.words (base_in slots (turn_of slots old.words)) q.next slots =
+    subst (λ (l : List ℕ). AreFree l (base_in slots (turn_of slots l)) q.next slots) c.find_pages.ensures.words here in
+    let pace = c.in_ok-find_pages.ensures.in_pace extra (omega (arith, roomy)) stands in
+    let most = begins_found pages slots sectors old p q n free c.find_pages.ensures.known
+    (λ unready. c.in_ok-find_pages.ensures.is_next unready
+    (tried_within pages slots sectors start old.words extra p unready stands)) begins in
+    let tried = c.copy_older.ensures.tried in
+    begins_on pages slots sectors mid new q c.copy_older.new.place n here pace.passed most c.copy_older.ensures.home
+    (ap (base_in slots) c.copy_older.ensures.turn) (omega (arith, tried)) (λ ready. c.copy_older.ensures.next)
+
+pub returns-clause-steps : goal.returns-clause-steps
+returns-clause-steps g c =
+    let pages = g.F.Flash.PAGES in
+    let sectors = g.F.Flash.SECTORS in
+    let q = c.find_pages.new.place in
+    let known = c.find_pages.ensures.log.known c.in_ok-find_pages.ensures.ready in
+    on_ok_weaker c.copy_older.result
+    (λ (steps : q.behind < g.F.Flash.SLOTS
+    → steps_left pages sectors c.copy_older.new.place ≡ steps_left pages sectors q). λ extra roomy pace.
+    let same = c.find_pages.ensures.known pace.ready in
+    let behind : q.behind ≡ c.args.place.now.behind = ap (λ (z : PageMap _). z.behind) same in
+    let copied : q.copied ≡ c.args.place.now.copied = ap (λ (z : PageMap _). z.copied) same in
+    let few = pace.few in
+    let most = known.spare.most in
+    let whole = g.met.F.Flash.pages_fit.2 in
+    steps (omega (arith, roomy, few, most, behind, copied, whole))
+    ∙ ap (λ (z : PageMap _). steps_left pages sectors z) same)
+    c.copy_older.ensures.steps

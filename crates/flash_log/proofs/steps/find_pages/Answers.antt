@@ -5,7 +5,7 @@ use Rattle.flash_device.specs.FlashLogs.{base_in, turn_of, words_of}
 use Rattle.flash_device.specs.PageTables.{IsPageTable, AreFree, IsFirstFreeSlot}
 use Rattle.flash_moves.specs.Paces.{IsInPaceFrom, KeepsPace, extra_of, lead_of}
 use Rattle.flash_moves.specs.Rings.{IsRing}
-use Rattle.flash_area.specs.Spares.{IsSpare, KeepsSteps}
+use Rattle.flash_area.specs.Spares.{FindsFurthest, IsSpare, KeepsSteps}
 use Rattle.flash_device.specs.laws.Indexing.{free_later}
 use Rattle.flash_moves.specs.laws.Pacing.{free_known, fresh_is, fresh_stands, paced_found, steps_most}
 use Rattle.flash_log.proofs.steps.find_pages.Goals as goal
@@ -245,3 +245,50 @@ returns-clause-in_pace g c = λ extra fits. ⊎_elim
 
 pub returns-clause-stands : goal.returns-clause-stands
 returns-clause-stands g c = λ extra fits stands. inl (returns-clause-in_pace g c extra fits stands)
+
+pub returns-then-place-clause-furthest : goal.returns-then-place-clause-furthest
+returns-then-place-clause-furthest g c = λ unready. absurd (true≢false (sym c.if-place.true ∙ unready))
+
+pub returns-clause-furthest : goal.returns-clause-furthest
+returns-clause-furthest g c = λ unready due.
+    let progress = c.in_ok-progress.progress in
+    subst (λ (l : List ℕ). FindsFurthest g.F.Flash.PAGES g.F.Flash.SLOTS g.F.Flash.SECTORS g.F.Flash.sector_start l
+    c.in_ok-turn.turn c.later-next.result (extra_of g.F.Flash.PAGES g.F.Flash.SLOTS g.F.Flash.SECTORS) progress.erased
+    progress.copied progress.older) (c.scan.ensures.words ∙ c.find_turn.ensures.words)
+    (c.in_ok-progress.ensures.furthest due)
+
+pub returns-then-place-clause-is_next : goal.returns-then-place-clause-is_next
+returns-then-place-clause-is_next g c = λ unready. absurd (true≢false (sym c.if-place.true ∙ unready))
+
+pub returns-clause-is_next : goal.returns-clause-is_next
+returns-clause-is_next g c = λ unready within.
+    let slots = g.F.Flash.SLOTS in
+    let m = (g.F.Flash.state c.args.flash.now).words in
+    let tried = c.args.place.now.tried in
+    let next = c.later-next.result in
+    let base : base_in slots c.home.result ≡ base_in slots (turn_of slots m) =
+    c.home.ensures.is slots ∙ ap (λ (t : ℕ). base_in slots t) c.in_ok-turn.ensures.turn in
+    let first : IsFirstFreeSlot m (base_in slots (turn_of slots m)) c.in_ok-first.first slots =
+    subst (λ (b : ℕ). IsFirstFreeSlot m b c.in_ok-first.first slots) base
+    (subst (λ (l : List ℕ). IsFirstFreeSlot l (base_in slots c.home.result) c.in_ok-first.first slots)
+    c.find_turn.ensures.words c.in_ok-first.ensures.first) in
+    let free : AreFree m (base_in slots (turn_of slots m)) c.in_ok-first.first slots =
+    subst (λ (b : ℕ). AreFree m b c.in_ok-first.first slots) base
+    (subst (λ (l : List ℕ). AreFree l (base_in slots c.home.result) c.in_ok-first.first slots)
+    c.find_turn.ensures.words c.in_ok-first.ensures.free) in
+    record {
+      free = free_later m (base_in slots (turn_of slots m)) c.in_ok-first.first next slots free
+          c.later-next.ensures.least c.later-next.ensures.most;
+      passed = ⊎_elim
+          (λ (le : tried ≤ next). le)
+          (λ (e : next ≡ slots). omega (arith, e, within))
+          c.later-next.ensures.passed;
+      first = λ s are passed. ⊎_elim
+          (λ (lt : c.in_ok-first.first < tried).
+          let same = c.later-next.ensures.is within (omega (arith, lt)) in omega (arith, same, passed))
+          (λ (le : tried ≤ c.in_ok-first.first).
+          let same = c.later-next.ensures.none le in
+          let least = first.first s are in
+          omega (arith, same, least))
+          (cases_lt c.in_ok-first.first tried);
+    }

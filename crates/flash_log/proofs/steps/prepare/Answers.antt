@@ -1,4 +1,5 @@
 use Rattle.std.proofs.Common.{◌≡◌, ◌<◌, ◌≤◌, ◌+◌, ◌∙◌, ℕ, refl, true, sym, ap, subst, inl, inr, ⊎_elim, arith}
+use Rattle.std.proofs.Common.{true≢false}
 use Rattle.std.proofs.lemmas.Bool.{cases_lt}
 use Rattle.flash_moves.specs.laws.Lighting.{tries_faults}
 use Rattle.flash_moves.specs.declared.place.PageMap.{PageMap}
@@ -9,13 +10,15 @@ use Rattle.flash_moves.specs.Paces.{IsBeforeMove, IsBrief, IsCaughtUp, WillKeepP
 use Rattle.flash_moves.specs.Paces.{failed_since, free_slots, is_fresh, lost_since}
 use Rattle.flash_moves.specs.laws.Pacing.{caught_more, failed_not_ok, lost_so, none_due, ready_brief, ready_caught}
 use Rattle.flash_moves.specs.laws.Pacing.{ready_found, ready_in_pace, ready_moves, ready_stands, ready_stays}
-use Rattle.flash_moves.specs.laws.Pacing.{ready_stepped, ready_stood, stepped_fresh, stepped_more}
+use Rattle.flash_moves.specs.laws.Pacing.{ready_stepped, ready_stood, stepped_fresh, stepped_more, stepped_room}
 use Rattle.flash_moves.specs.laws.Losing.{ready_lost, step_lost}
+use Rattle.flash_log.specs.laws.Beginning.{begins_step}
 use Rattle.flash_log.specs.laws.TakingTurns.{next_is, still_next}
 use Rattle.flash_log.proofs.steps.prepare.Given.{Over}
-use Rattle.flash_log.specs.SlotsInTurn.{FindsNext, WillTake}
+use Rattle.flash_log.specs.SlotsInTurn.{BeginsBy, FindsNext, WillTake}
 use Rattle.flash_moves.specs.Places.{log_value}
-use Rattle.flash_moves.specs.Paces.{CopiesNoPageAt, HasNoStepDue, HasStepped, IsInPace, IsRoomy, StandsSo, lead_of}
+use Rattle.flash_moves.specs.Paces.{CopiesNoPageAt, HasNoStepDue, HasStepped, IsInPace, IsRoomy, StandsSo, StaysInArea}
+use Rattle.flash_moves.specs.Paces.{lead_of, steps_left}
 use Rattle.flash_log.proofs.steps.prepare.Goals.{After-make_room}
 use Rattle.flash_log.proofs.steps.prepare.Goals as goal
 
@@ -468,3 +471,136 @@ returns-in_err-make_room-clause-turns g c =
 
 pub returns-clause-turns : goal.returns-clause-turns
 returns-clause-turns g c = room_turns g (goal.at.returns-clause-turns g c).After-make_room
+
+pub returns-in_err-catch_up-clause-begins : goal.returns-in_err-catch_up-clause-begins
+returns-in_err-catch_up-clause-begins g c = λ extra n roomy stands stays begins.
+    c.catch_up.ensures.begins extra n roomy stands begins
+
+pub returns-in_err-take_step-clause-begins : goal.returns-in_err-take_step-clause-begins
+returns-in_err-take_step-clause-begins g c = λ extra n roomy stands stays begins.
+    let slots = g.F.Flash.SLOTS in
+    let pages = g.F.Flash.PAGES in
+    let sectors = g.F.Flash.SECTORS in
+    let start = g.F.Flash.sector_start in
+    let old = g.F.Flash.state c.args.flash.now in
+    let found = g.F.Flash.state c.catch_up.new.flash in
+    let p = c.args.place.now in
+    let q = c.catch_up.new.place in
+    let stepped = g.F.Flash.state c.take_step.new.flash in
+    let s = c.take_step.new.place in
+    let ready = c.in_ok-catch_up.ensures.ready in
+    let power = c.in_ok-catch_up.ensures.light.ok refl in
+    let rise = tries_faults 1 found stepped c.take_step.result c.take_step.ensures.light in
+    let here = ready_caught pages slots sectors extra old found stepped p q s start
+    (WillKeepPace pages slots sectors start old.words extra p)
+    (c.catch_up.ensures.stands extra) ready power c.take_step.ensures.stands rise roomy stands in
+    let known = c.catch_up.ensures.log.known ready in
+    begins_step pages slots sectors old found stepped q s n ready
+    (subst (λ (t : ℕ). AreFree found.words (base_in slots t) q.next slots) known.turn known.free) here.passed
+    c.catch_up.ensures.turn c.take_step.ensures.home stays c.take_step.ensures.tried
+    (λ there. absurd (true≢false (sym there ∙ c.in_err-take_step.ensures.unready)))
+    (c.catch_up.ensures.begins extra n (omega (arith, roomy, rise)) stands begins)
+
+-- A step passes no slot, unless the pages move. In pace there is room behind it.
+room_begins : (g : Over) (c : After-make_room g) → (extra n : ℕ)
+    → IsRoomy g.F.Flash.PAGES g.F.Flash.SLOTS g.F.Flash.SECTORS
+    (extra + failed_since (g.F.Flash.state c.args.flash.now) (g.F.Flash.state c.make_room.new.flash))
+    → WillKeepPace g.F.Flash.PAGES g.F.Flash.SLOTS g.F.Flash.SECTORS g.F.Flash.sector_start
+    (g.F.Flash.state c.args.flash.now).words extra c.args.place.now
+    → StaysInArea g.F.Flash.SLOTS (g.F.Flash.state c.args.flash.now).words
+    (g.F.Flash.state c.make_room.new.flash).words
+    → BeginsBy g.F.Flash.SLOTS (log_value g.F.Flash.PAGES g.F.Flash.SLOTS g.F.Flash.SECTORS
+    (g.F.Flash.state c.args.flash.now) c.args.place.now) n
+    → BeginsBy g.F.Flash.SLOTS (log_value g.F.Flash.PAGES g.F.Flash.SLOTS g.F.Flash.SECTORS
+    (g.F.Flash.state c.make_room.new.flash) c.make_room.new.place) n
+room_begins g c = λ extra n roomy stands stays begins.
+    let slots = g.F.Flash.SLOTS in
+    let pages = g.F.Flash.PAGES in
+    let sectors = g.F.Flash.SECTORS in
+    let start = g.F.Flash.sector_start in
+    let old = g.F.Flash.state c.args.flash.now in
+    let found = g.F.Flash.state c.catch_up.new.flash in
+    let p = c.args.place.now in
+    let q = c.catch_up.new.place in
+    let stepped = g.F.Flash.state c.take_step.new.flash in
+    let s = c.take_step.new.place in
+    let ready = c.in_ok-catch_up.ensures.ready in
+    let power = c.in_ok-catch_up.ensures.light.ok refl in
+    let more = c.in_ok-take_step.ensures.light.ok refl in
+    let rise = more.faults in
+    let there = c.in_ok-take_step.ensures.ready in
+    let last = g.F.Flash.state c.make_room.new.flash in
+    let t = c.make_room.new.place in
+    let most = tries_faults 1 stepped last c.make_room.result c.make_room.ensures.light in
+    let here = ready_caught pages slots sectors extra old found stepped p q s start
+    (WillKeepPace pages slots sectors start old.words extra p)
+    (c.catch_up.ensures.stands extra) ready power c.take_step.ensures.stands rise
+    (omega (arith, roomy, most)) stands in
+    let room = stepped_room pages slots sectors (extra + failed_since old stepped) s
+    (ready_stepped pages slots sectors extra old found stepped p q s start
+    (WillKeepPace pages slots sectors start old.words extra p)
+    (c.catch_up.ensures.stands extra) ready power c.take_step.ensures.stands rise
+    (omega (arith, roomy, most)) there more.due stands) in
+    let still = c.make_room.ensures.same room in
+    let known = c.catch_up.ensures.log.known ready in
+    let stepped_begins = begins_step pages slots sectors old found stepped q s n ready
+    (subst (λ (k : ℕ). AreFree found.words (base_in slots k) q.next slots) known.turn known.free) here.passed
+    c.catch_up.ensures.turn c.take_step.ensures.home
+    (subst (λ (f : FlashState). StaysInArea slots old.words f.words) still.1 stays) c.take_step.ensures.tried
+    (λ is. c.in_ok-take_step.ensures.next)
+    (c.catch_up.ensures.begins extra n (omega (arith, roomy, rise, most)) stands begins) in
+    subst (λ (z : PageMap _). BeginsBy slots (log_value pages slots sectors last z) n) (sym still.0)
+    (subst (λ (f : FlashState). BeginsBy slots (log_value pages slots sectors f s) n) (sym still.1) stepped_begins)
+
+pub returns-in_err-make_room-clause-begins : goal.returns-in_err-make_room-clause-begins
+returns-in_err-make_room-clause-begins g c =
+    room_begins g (goal.at.returns-in_err-make_room-clause-begins g c).After-make_room
+
+pub returns-clause-begins : goal.returns-clause-begins
+returns-clause-begins g c = room_begins g (goal.at.returns-clause-begins g c).After-make_room
+
+pub returns-clause-steps : goal.returns-clause-steps
+returns-clause-steps g c = λ extra roomy same pace due stays.
+    let slots = g.F.Flash.SLOTS in
+    let pages = g.F.Flash.PAGES in
+    let sectors = g.F.Flash.SECTORS in
+    let start = g.F.Flash.sector_start in
+    let old = g.F.Flash.state c.args.flash.now in
+    let found = g.F.Flash.state c.catch_up.new.flash in
+    let p = c.args.place.now in
+    let q = c.catch_up.new.place in
+    let stepped = g.F.Flash.state c.take_step.new.flash in
+    let s = c.take_step.new.place in
+    let ready = c.in_ok-catch_up.ensures.ready in
+    let power = c.in_ok-catch_up.ensures.light.ok refl in
+    let less = power.faults in
+    let more = c.in_ok-take_step.ensures.light.ok refl in
+    let rise = more.faults in
+    let there = c.in_ok-take_step.ensures.ready in
+    let last = g.F.Flash.state c.make_room.new.flash in
+    let t = c.make_room.new.place in
+    let most = tries_faults 1 stepped last c.make_room.result c.make_room.ensures.light in
+    let here = ready_caught pages slots sectors extra old found stepped p q s start
+    (WillKeepPace pages slots sectors start old.words extra p)
+    (c.catch_up.ensures.stands extra) ready power c.take_step.ensures.stands rise
+    (omega (arith, roomy, same, less, rise, most)) (inl pace) in
+    let room = stepped_room pages slots sectors (extra + failed_since old stepped) s
+    (ready_stepped pages slots sectors extra old found stepped p q s start
+    (WillKeepPace pages slots sectors start old.words extra p)
+    (c.catch_up.ensures.stands extra) ready power c.take_step.ensures.stands rise
+    (omega (arith, roomy, same, less, rise, most)) there more.due (inl pace)) in
+    let still = c.make_room.ensures.same room in
+    let next = c.catch_up.ensures.next pace.ready in
+    let steps = c.in_ok-catch_up.ensures.steps extra roomy pace in
+    let ends = c.in_ok-take_step.ensures.steps (extra + failed_since old found)
+    (omega (arith, roomy, same, less, rise, most)) here (omega (arith, next, due)) in
+    let area : StaysInArea slots found.words stepped.words =
+    subst (λ (f : FlashState). StaysInArea slots old.words f.words) still.1 stays
+    ∙ sym (ap (base_in slots) c.catch_up.ensures.turn) in
+    let stepped_next = c.in_ok-take_step.ensures.next area in
+    let last_steps = ap (λ (z : PageMap _). steps_left pages sectors z) still.0 in
+    ⊎_elim
+    (λ (one : (steps_left pages sectors s + 1 ≡ steps_left pages sectors q) × (s.next ≡ q.next)).
+    let fewer = one.0 in omega (arith, fewer, steps, last_steps))
+    (λ (far : s.next + lead_of pages sectors < slots). absurd (omega (arith, far, stepped_next, next, due)))
+    ends.fewer

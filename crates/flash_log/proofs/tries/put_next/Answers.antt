@@ -192,3 +192,11 @@ returns-clause-last g c =
     let last = c.in_ok-write_run.ensures.last in
     let put : place.next + 1 ≡ slots - (slots - (place.next + 1)) = omega (arith, room) in
     ap (λ (b : ℕ). find after b slots c.args.page) (sym home) ∙ last ∙ put
+
+pub returns-in_err-write_run-clause-turn : goal.returns-in_err-write_run-clause-turn
+returns-in_err-write_run-clause-turn g c = turn_same g.F.Flash.SLOTS (g.F.Flash.state c.args.flash.now).words
+    (g.F.Flash.state c.write_run.new.flash).words c.write_run.ensures.marks
+
+pub returns-clause-turn : goal.returns-clause-turn
+returns-clause-turn g c = turn_same g.F.Flash.SLOTS (g.F.Flash.state c.args.flash.now).words
+    (g.F.Flash.state c.write_run.new.flash).words c.write_run.ensures.marks

@@ -1,12 +1,13 @@
-use Rattle.std.proofs.Common.{◌≡◌, ◌≤◌, ◌+◌, ◌-◌, ◌*◌, length, Err, refl, ap, inl, subst, ◌∙◌, arith, true≢false}
+use Rattle.std.proofs.Common.{◌≡◌, ◌≤◌, ◌+◌, ◌-◌, ◌*◌, length, Err, refl, ap, inl, inr, subst, ◌∙◌, arith, true≢false}
 use Rattle.std.proofs.Common.{sym}
 use Rattle.nvm_board.specs.declared.board.DeviceErr.{DeviceErr}
-use Rattle.flash_device.specs.FlashCalls.{Tries}
+use Rattle.flash_device.specs.FlashCalls.{KeepsPower, Tries}
 use Rattle.flash_device.specs.FlashLogs.{words_of}
 use Rattle.flash_area.specs.laws.Words.{length-words}
 use Rattle.flash_moves.specs.Places.{log_value}
 use Rattle.flash_moves.specs.laws.Lighting.{tries_faults}
 use Rattle.flash_log.specs.laws.Retrying.{tries_behind}
+use Rattle.flash_log.specs.laws.Beginning.{begins_later}
 use Rattle.flash_log.specs.laws.TakingTurns.{takes_more, takes_none, takes_then}
 use Rattle.flash_moves.specs.laws.Writing.{done_again, whole_again}
 use Rattle.flash_log.proofs.tries.try_again.Goals as goal
@@ -20,7 +21,12 @@ loop-init g c = record {
   erases = refl;
   stood = λ extra fits stands. stands;
   turns = λ n far takes. takes_more g.F.Flash.SLOTS n 0 _ _ _ (omega arith) (takes_none g.F.Flash.SLOTS n _ takes);
-  met = λ n far takes. omega arith;
+  met = omega arith;
+  unready = c.requires.unready;
+  turn = refl;
+  begun = λ extra n fits stands begins. begins_later g.F.Flash.SLOTS
+      (log_value g.F.Flash.PAGES g.F.Flash.SLOTS g.F.Flash.SECTORS (g.F.Flash.state c.args.flash.now)
+      c.args.place.now) n (n + 0) (omega arith) begins;
   log = c.requires.log;
   whole = inl refl;
 }
@@ -63,13 +69,17 @@ loop-preserved g c =
           (log_value pages slots sectors now c.loop.place) (log_value pages slots sectors new c.write_again.new.place)
           (omega (arith, met, less)) first
           (c.write_again.ensures.slots first.next (omega (arith, few, far, test)) first.takes);
-      met = λ n far takes.
-          let first = was.turns n far takes in
-          let few = first.few in
-          let tried = c.in-Err-Fault.ensures.tries first.next (omega (arith, few, far, test)) first.takes in
-          let rise = (tried.fault (ap Err c.in-Err-Fault.field-0-is)).1 in
-          let counted = was.met n far takes in
+      met =
+          let rise = c.in-Err-Fault.ensures.failed_once (ap Err c.in-Err-Fault.field-0-is) c.if-place.false in
+          let counted = was.met in
           omega (arith, rise, counted);
+      unready = c.if-place.false;
+      turn = c.write_again.ensures.turn ∙ was.turn;
+      begun = λ extra n few stands begins. begins_later slots
+          (log_value pages slots sectors new c.write_again.new.place) (n + (c.loop.counter - 1) + 1)
+          (n + (c.loop.counter + 1 - 1)) (omega (arith, less, met))
+          (c.write_again.ensures.begins extra (n + (c.loop.counter - 1)) few (was.stood extra few stands)
+          (was.begun extra n few stands begins));
       log = c.write_again.ensures.log;
       whole = whole_again m mid after c.args.words.now at fits was.whole c.write_again.ensures.whole;
     }
@@ -148,7 +158,7 @@ returns-in-Ok-clause-slots g c = λ n far takes.
     let new = g.F.Flash.state c.write_again.new.flash in
     let first = c.loop.invariant.turns n far takes in
     let few = first.few in
-    let counted = c.loop.invariant.met n far takes in
+    let counted = c.loop.invariant.met in
     let test = c.loop-test.true in
     let more = tries_faults 0 now new c.write_again.result c.write_again.ensures.light in
     takes_then slots n (c.loop.counter - 1) 1 _ (log_value pages slots sectors old c.args.place.now)
@@ -199,7 +209,7 @@ returns-in-Err-PowerLost-clause-slots g c = λ n far takes.
     let new = g.F.Flash.state c.write_again.new.flash in
     let first = c.loop.invariant.turns n far takes in
     let few = first.few in
-    let counted = c.loop.invariant.met n far takes in
+    let counted = c.loop.invariant.met in
     let test = c.loop-test.true in
     let more = tries_faults 0 now new c.write_again.result c.write_again.ensures.light in
     takes_then slots n (c.loop.counter - 1) 1 _ (log_value pages slots sectors old c.args.place.now)
@@ -210,6 +220,92 @@ returns-in-Err-PowerLost-clause-slots g c = λ n far takes.
 pub returns-in-Err-PowerLost-clause-stands : goal.returns-in-Err-PowerLost-clause-stands
 returns-in-Err-PowerLost-clause-stands g c = λ extra few stands.
     c.write_again.ensures.stands extra few (c.loop.invariant.stood extra few stands)
+
+pub returns-then-place-clause-whole : goal.returns-then-place-clause-whole
+returns-then-place-clause-whole g c =
+    let slots = g.F.Flash.SLOTS in
+    let pages = g.F.Flash.PAGES in
+    let m = words_of pages slots (g.F.Flash.state c.args.flash.now).words in
+    let mid = words_of pages slots (g.F.Flash.state c.loop.flash).words in
+    let after = words_of pages slots (g.F.Flash.state c.write_again.new.flash).words in
+    let at = 16 * c.args.page + c.args.first in
+    let all : length m ≡ 16 * pages = length-words pages slots (g.F.Flash.state c.args.flash.now).words in
+    let fits : at + length c.args.words.now ≤ length m = omega (arith, all, c.requires.page, c.requires.run) in
+    whole_again m mid after c.args.words.now at fits c.loop.invariant.whole c.write_again.ensures.whole
+
+pub returns-then-place-clause-light : goal.returns-then-place-clause-light
+returns-then-place-clause-light g c =
+    let failed = c.in-Err-Fault.ensures.light.fault (ap Err c.in-Err-Fault.field-0-is) in
+    let less = c.loop.invariant.steady.faults in
+    let more = failed.0.faults in
+    let power : KeepsPower (g.F.Flash.state c.args.flash.now) (g.F.Flash.state c.write_again.new.flash) = record {
+      lit = failed.0.lit;
+      due = failed.0.due ∙ c.loop.invariant.steady.due;
+      faults = omega (arith, less, more);
+    } in
+    record {
+      ok = λ e. absurd (true≢false (sym e));
+      lost = λ e. absurd cc;
+      fault = λ e. (power, omega (arith, less, more));
+    }
+
+pub returns-then-place-clause-most : goal.returns-then-place-clause-most
+returns-then-place-clause-most g c =
+    let met = c.loop.invariant.most in
+    let once = c.write_again.ensures.once in
+    let test = c.loop-test.true in
+    omega (arith, met, once, test)
+
+pub returns-then-place-clause-tries : goal.returns-then-place-clause-tries
+returns-then-place-clause-tries g c = λ n far takes failed.
+    let first = c.loop.invariant.turns n far takes in
+    let few = first.few in
+    let test = c.loop-test.true in
+    absurd (true≢false (sym c.if-place.true ∙ c.in-Err-Fault.ensures.slotted first.next (omega (arith, few, far, test))
+    first.takes (ap Err c.in-Err-Fault.field-0-is)))
+
+pub returns-then-place-clause-gives_up : goal.returns-then-place-clause-gives_up
+returns-then-place-clause-gives_up g c = λ failed.
+    inr (c.in-Err-Fault.ensures.gives_up (ap Err c.in-Err-Fault.field-0-is) c.if-place.true)
+
+pub returns-then-place-clause-work : goal.returns-then-place-clause-work
+returns-then-place-clause-work g c = record {
+  operations =
+      let before = c.loop.invariant.operations in
+      let work = (c.in-Err-Fault.ensures.failed (ap Err c.in-Err-Fault.field-0-is)).operations in
+      omega (arith, before, work);
+}
+
+pub returns-then-place-clause-erases : goal.returns-then-place-clause-erases
+returns-then-place-clause-erases g c = c.write_again.ensures.erases ∙ c.loop.invariant.erases
+
+pub returns-then-place-clause-slots : goal.returns-then-place-clause-slots
+returns-then-place-clause-slots g c = λ n far takes.
+    let slots = g.F.Flash.SLOTS in
+    let pages = g.F.Flash.PAGES in
+    let sectors = g.F.Flash.SECTORS in
+    let old = g.F.Flash.state c.args.flash.now in
+    let now = g.F.Flash.state c.loop.flash in
+    let new = g.F.Flash.state c.write_again.new.flash in
+    let first = c.loop.invariant.turns n far takes in
+    let few = first.few in
+    let counted = c.loop.invariant.met in
+    let test = c.loop-test.true in
+    let more = tries_faults 0 now new c.write_again.result c.write_again.ensures.light in
+    takes_then slots n (c.loop.counter - 1) 1 _ (log_value pages slots sectors old c.args.place.now)
+    (log_value pages slots sectors now c.loop.place) (log_value pages slots sectors new c.write_again.new.place)
+    (omega (arith, counted, more)) first
+    (c.write_again.ensures.slots first.next (omega (arith, few, far, test)) first.takes)
+
+pub returns-then-place-clause-stands : goal.returns-then-place-clause-stands
+returns-then-place-clause-stands g c = λ extra few stands.
+    c.write_again.ensures.stands extra few (c.loop.invariant.stood extra few stands)
+
+pub returns-clause-gives_up : goal.returns-clause-gives_up
+returns-clause-gives_up g c = λ failed.
+    let counted = c.loop.invariant.met in
+    let test = c.loop-test.false in
+    inl (omega (arith, counted, test))
 
 pub returns-clause-light : goal.returns-clause-light
 returns-clause-light g c = record {
@@ -227,7 +323,7 @@ returns-clause-most g c =
 
 pub returns-clause-tries : goal.returns-clause-tries
 returns-clause-tries g c = λ n far takes failed.
-    let counted = c.loop.invariant.met n far takes in
+    let counted = c.loop.invariant.met in
     let test = c.loop-test.false in
     omega (arith, counted, test)
 
@@ -239,5 +335,82 @@ returns-clause-work g c = record {
 pub returns-clause-slots : goal.returns-clause-slots
 returns-clause-slots g c = λ n far takes.
     let first = c.loop.invariant.turns n far takes in
-    let counted = c.loop.invariant.met n far takes in
+    let counted = c.loop.invariant.met in
     takes_more g.F.Flash.SLOTS n (c.loop.counter - 1) _ _ _ (omega (arith, counted)) first
+
+pub returns-in-Ok-clause-turn : goal.returns-in-Ok-clause-turn
+returns-in-Ok-clause-turn g c = c.write_again.ensures.turn ∙ c.loop.invariant.turn
+
+pub returns-in-Ok-clause-begins : goal.returns-in-Ok-clause-begins
+returns-in-Ok-clause-begins g c = λ extra n few stands begins.
+    let counted = c.loop.invariant.met in
+    let more = tries_faults 0 (g.F.Flash.state c.loop.flash) (g.F.Flash.state c.write_again.new.flash)
+    c.write_again.result c.write_again.ensures.light in
+    begins_later g.F.Flash.SLOTS
+    (log_value g.F.Flash.PAGES g.F.Flash.SLOTS g.F.Flash.SECTORS (g.F.Flash.state c.write_again.new.flash)
+    c.write_again.new.place) (n + (c.loop.counter - 1) + 1) (n + 1 + ((g.F.Flash.state c.write_again.new.flash).faults
+    - (g.F.Flash.state c.args.flash.now).faults)) (omega (arith, counted, more))
+    (c.write_again.ensures.begins extra (n + (c.loop.counter - 1)) few (c.loop.invariant.stood extra few stands)
+    (c.loop.invariant.begun extra n few stands begins))
+
+pub returns-in-Err-PowerLost-clause-turn : goal.returns-in-Err-PowerLost-clause-turn
+returns-in-Err-PowerLost-clause-turn g c = c.write_again.ensures.turn ∙ c.loop.invariant.turn
+
+pub returns-in-Err-PowerLost-clause-begins : goal.returns-in-Err-PowerLost-clause-begins
+returns-in-Err-PowerLost-clause-begins g c = λ extra n few stands begins.
+    let counted = c.loop.invariant.met in
+    let more = tries_faults 0 (g.F.Flash.state c.loop.flash) (g.F.Flash.state c.write_again.new.flash)
+    c.write_again.result c.write_again.ensures.light in
+    begins_later g.F.Flash.SLOTS
+    (log_value g.F.Flash.PAGES g.F.Flash.SLOTS g.F.Flash.SECTORS (g.F.Flash.state c.write_again.new.flash)
+    c.write_again.new.place) (n + (c.loop.counter - 1) + 1) (n + 1 + ((g.F.Flash.state c.write_again.new.flash).faults
+    - (g.F.Flash.state c.args.flash.now).faults)) (omega (arith, counted, more))
+    (c.write_again.ensures.begins extra (n + (c.loop.counter - 1)) few (c.loop.invariant.stood extra few stands)
+    (c.loop.invariant.begun extra n few stands begins))
+
+pub returns-then-place-clause-turn : goal.returns-then-place-clause-turn
+returns-then-place-clause-turn g c = c.write_again.ensures.turn ∙ c.loop.invariant.turn
+
+pub returns-then-place-clause-begins : goal.returns-then-place-clause-begins
+returns-then-place-clause-begins g c = λ extra n few stands begins.
+    let counted = c.loop.invariant.met in
+    let more = tries_faults 0 (g.F.Flash.state c.loop.flash) (g.F.Flash.state c.write_again.new.flash)
+    c.write_again.result c.write_again.ensures.light in
+    begins_later g.F.Flash.SLOTS
+    (log_value g.F.Flash.PAGES g.F.Flash.SLOTS g.F.Flash.SECTORS (g.F.Flash.state c.write_again.new.flash)
+    c.write_again.new.place) (n + (c.loop.counter - 1) + 1) (n + 1 + ((g.F.Flash.state c.write_again.new.flash).faults
+    - (g.F.Flash.state c.args.flash.now).faults)) (omega (arith, counted, more))
+    (c.write_again.ensures.begins extra (n + (c.loop.counter - 1)) few (c.loop.invariant.stood extra few stands)
+    (c.loop.invariant.begun extra n few stands begins))
+
+pub returns-clause-begins : goal.returns-clause-begins
+returns-clause-begins g c = λ extra n few stands begins.
+    let counted = c.loop.invariant.met in
+    begins_later g.F.Flash.SLOTS
+    (log_value g.F.Flash.PAGES g.F.Flash.SLOTS g.F.Flash.SECTORS (g.F.Flash.state c.loop.flash) c.loop.place)
+    (n + (c.loop.counter - 1)) (n + 1 + ((g.F.Flash.state c.loop.flash).faults
+    - (g.F.Flash.state c.args.flash.now).faults)) (omega (arith, counted))
+    (c.loop.invariant.begun extra n few stands begins)
+
+pub returns-then-place-clause-passes : goal.returns-then-place-clause-passes
+returns-then-place-clause-passes g c = λ failed extra n few stands begins.
+    let counted = c.loop.invariant.met in
+    let more = tries_faults 0 (g.F.Flash.state c.loop.flash) (g.F.Flash.state c.write_again.new.flash)
+    c.write_again.result c.write_again.ensures.light in
+    let now = (g.F.Flash.state c.loop.flash).faults in
+    let new = (g.F.Flash.state c.write_again.new.flash).faults in
+    begins_later g.F.Flash.SLOTS
+    (log_value g.F.Flash.PAGES g.F.Flash.SLOTS g.F.Flash.SECTORS (g.F.Flash.state c.write_again.new.flash)
+    c.write_again.new.place) (n + (c.loop.counter - 1) + (new - now))
+    (n + (new - (g.F.Flash.state c.args.flash.now).faults)) (omega (arith, counted, more))
+    (c.in-Err-Fault.ensures.passes (ap Err c.in-Err-Fault.field-0-is) extra (n + (c.loop.counter - 1)) few
+    (c.loop.invariant.stood extra few stands) (c.loop.invariant.begun extra n few stands begins))
+
+pub returns-clause-passes : goal.returns-clause-passes
+returns-clause-passes g c = λ failed extra n few stands begins.
+    let counted = c.loop.invariant.met in
+    begins_later g.F.Flash.SLOTS
+    (log_value g.F.Flash.PAGES g.F.Flash.SLOTS g.F.Flash.SECTORS (g.F.Flash.state c.loop.flash) c.loop.place)
+    (n + (c.loop.counter - 1)) (n + ((g.F.Flash.state c.loop.flash).faults
+    - (g.F.Flash.state c.args.flash.now).faults)) (omega (arith, counted))
+    (c.loop.invariant.begun extra n few stands begins)

@@ -1,10 +1,10 @@
 use Rattle.std.proofs.Common.{◌≡◌, ◌⊎◌, ◌≤◌, ◌+◌, ◌-◌, ◌*◌, ℕ, false}
 use Rattle.nvm_board.specs.History.{written}
 use Rattle.flash_device.specs.FlashCalls.{KeepsPower}
-use Rattle.flash_device.specs.FlashLogs.{words_of}
+use Rattle.flash_device.specs.FlashLogs.{turn_of, words_of}
 use Rattle.flash_moves.specs.Paces.{WillKeepPace, extra_of, lead_of}
 use Rattle.flash_moves.specs.Places.{IsLog, log_value}
-use Rattle.flash_log.specs.SlotsInTurn.{TakesInTurn, WillTake}
+use Rattle.flash_log.specs.SlotsInTurn.{BeginsBy, TakesInTurn, WillTake}
 use Rattle.flash_log.proofs.tries.try_again.Given as goal
 
 abbrev pub invariant-loop : goal.invariant-loop
@@ -27,9 +27,13 @@ invariant-loop g l =
           → WillTake slots (log_value pages slots sectors old l.initial.place) n
           → TakesInTurn slots n (l.counter - 1) (log_value pages slots sectors old l.initial.place)
           (log_value pages slots sectors new l.place);
-      met : (n : ℕ) → n + lead_of pages sectors ≤ slots
-          → WillTake slots (log_value pages slots sectors old l.initial.place) n
-          → old.faults + l.counter ≤ new.faults + 1;
+      met : old.faults + l.counter ≤ new.faults + 1;
+      unready : l.place.ready ≡ false;
+      turn : turn_of slots new.words ≡ turn_of slots old.words;
+      begun : (extra n : ℕ) → extra ≤ extra_of pages slots sectors
+          → WillKeepPace pages slots sectors start old.words extra l.initial.place
+          → BeginsBy slots (log_value pages slots sectors old l.initial.place) n
+          → BeginsBy slots (log_value pages slots sectors new l.place) (n + (l.counter - 1));
       log : IsLog g.F.Table.PageTable.entries pages slots sectors start new.words l.place;
       whole : (words_of pages slots new.words ≡ words_of pages slots old.words) ⊎ (words_of pages slots new.words
           ≡ written (words_of pages slots old.words) (16 * l.page + l.first) l.words);

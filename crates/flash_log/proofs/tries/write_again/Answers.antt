@@ -1,15 +1,24 @@
-use Rattle.std.proofs.Common.{◌≡◌, ◌⊎◌, ◌<◌, ◌≤◌, ◌+◌, ◌*◌, ℕ, List, refl, ap, subst, inl, ◌∙◌, arith}
+use Rattle.std.proofs.Common.{◌≡◌, ◌⊎◌, ◌<◌, ◌≤◌, ◌+◌, ◌-◌, ◌*◌, ℕ, List, refl, ap, sym, subst, inl, ⊎_elim, ◌∙◌, arith}
+use Rattle.std.specs.Prelude.{IsErrOf}
+use Rattle.nvm_board.specs.declared.board.DeviceErr.TheVariants.{Fault}
+use Rattle.std.proofs.Common.{rules, true≢false}
+use Rattle.std.proofs.lemmas.Bool.{cases_lt}
 use Rattle.std.proofs.lemmas.Result.{on_ok_weaker}
 use Rattle.nvm_board.specs.History.{written}
 use Rattle.flash_device.specs.FlashCalls.{Tries}
 use Rattle.flash_device.specs.FlashLogs.{base_in, turn_of, words_of}
 use Rattle.flash_device.specs.PageTables.{AreFree}
-use Rattle.flash_moves.specs.Paces.{HasStepped, KeepsPace, OwnsOlder, WillKeepPace, extra_of, move_steps_of, steps_left}
+use Rattle.flash_moves.specs.Paces.{HasStepped, KeepsPace, OwnsOlder, WillKeepPace, extra_of}
+use Rattle.flash_moves.specs.Paces.{move_steps_of, steps_left}
 use Rattle.flash_moves.specs.Places.{IsPlaceOf, log_value}
-use Rattle.flash_log.specs.SlotsInTurn.{TakesInTurn, WillTake}
+use Rattle.flash_area.specs.Spares.{FindsFurthest}
+use Rattle.flash_log.specs.SlotsInTurn.{BeginsBy, GivesUp, TakesInTurn, WillTake}
+use Rattle.flash_log.specs.laws.Beginning.{begins_at, begins_behind, begins_later, begins_lost, begins_tried}
+use Rattle.flash_log.specs.laws.Beginning.{tried_within}
+use Rattle.flash_log.specs.laws.GivingUp.{gives_up_found}
 use Rattle.flash_moves.specs.laws.Lighting.{lights_faults, lights_once}
 use Rattle.flash_moves.specs.laws.Pacing.{steps_most}
-use Rattle.flash_log.specs.laws.Retrying.{lights_tries, tries_behind}
+use Rattle.flash_log.specs.laws.Retrying.{err_holds, lights_tries, tries_behind}
 use Rattle.flash_log.specs.laws.TakingTurns.{finds_again, finds_own, finds_takes, finds_then, lost_next, was_lost}
 use Rattle.flash_log.proofs.tries.write_again.Given.{Over}
 use Rattle.flash_log.proofs.tries.write_again.Goals.{After-keep_own, After-put_next}
@@ -264,3 +273,179 @@ pub returns-clause-stands : goal.returns-clause-stands
 returns-clause-stands g c = λ extra fits stands. c.put_next.ensures.stands extra
     (own_stepped g (goal.at.returns-clause-stands g c).After-put_next extra
     (own_pace g (goal.at.returns-clause-stands g c).After-keep_own extra fits stands))
+
+-- By what was found no slot is free.
+found_full : (g : Over) (c : After-keep_own g)
+    → (OwnsOlder c.args.page c.keep_own.new.place
+    → g.F.Flash.SLOTS ≤ steps_left g.F.Flash.PAGES g.F.Flash.SECTORS c.keep_own.new.place + c.keep_own.new.place.next)
+    → GivesUp g.F.Flash.PAGES g.F.Flash.SLOTS g.F.Flash.SECTORS g.F.Flash.sector_start c.args.page
+    (log_value g.F.Flash.PAGES g.F.Flash.SLOTS g.F.Flash.SECTORS (g.F.Flash.state c.find_pages.new.flash)
+    c.keep_own.new.place)
+found_full g c = λ full.
+    let slots = g.F.Flash.SLOTS in
+    let pages = g.F.Flash.PAGES in
+    let sectors = g.F.Flash.SECTORS in
+    let start = g.F.Flash.sector_start in
+    let mid = g.F.Flash.state c.find_pages.new.flash in
+    let q = c.find_pages.new.place in
+    let r = c.keep_own.new.place in
+    let next = c.keep_own.ensures.same.1 in
+    let known = own_place g c in
+    ⊎_elim
+    (λ (far : q.next + move_steps_of pages sectors < slots).
+    let most = steps_most pages slots sectors r in
+    let all = full (c.keep_own.ensures.own far) in
+    absurd (omega (arith, all, most, next, far)))
+    (λ (near : slots ≤ q.next + move_steps_of pages sectors).
+    let finds : FindsFurthest pages slots sectors start mid.words q.turn q.next (extra_of pages slots sectors)
+    q.erased q.copied q.older =
+    subst (λ (l : List ℕ). FindsFurthest pages slots sectors start l q.turn q.next (extra_of pages slots sectors)
+    q.erased q.copied q.older) (sym c.find_pages.ensures.words)
+    (c.in_ok-find_pages.ensures.furthest c.requires.unready (omega (arith, near))) in
+    gives_up_found pages slots sectors start mid q r c.args.page (c.keep_own.ensures.full near)
+    (c.keep_own.ensures.same.0 ∙ c.in_ok-find_pages.ensures.ready) known.turn
+    (subst (λ (t : ℕ). AreFree mid.words (base_in slots t) r.next slots) known.turn known.free) finds full)
+    (cases_lt (q.next + move_steps_of pages sectors) slots)
+
+pub returns-in_err-find_pages-clause-gives_up : goal.returns-in_err-find_pages-clause-gives_up
+returns-in_err-find_pages-clause-gives_up g c = λ failed ready.
+    absurd (true≢false (sym ready ∙ c.in_err-find_pages.ensures.unready))
+
+pub returns-in_err-find_pages-clause-failed_once : goal.returns-in_err-find_pages-clause-failed_once
+returns-in_err-find_pages-clause-failed_once g c = λ failed unready.
+    let is : IsErrOf c.find_pages.result Fault = search rules in
+    let more = (c.find_pages.ensures.light.fault is).faults in
+    omega (arith, more)
+
+pub returns-in_err-find_pages-clause-slotted : goal.returns-in_err-find_pages-clause-slotted
+returns-in_err-find_pages-clause-slotted g c = λ n far takes failed. c.in_err-find_pages.ensures.unready
+
+pub returns-then-not-has_slot-clause-gives_up : goal.returns-then-not-has_slot-clause-gives_up
+returns-then-not-has_slot-clause-gives_up g c = λ failed ready.
+    found_full g (goal.at.returns-then-not-has_slot-clause-gives_up g c).After-keep_own
+    (c.has_slot.ensures.no c.if-not-has_slot.true)
+
+pub returns-then-not-has_slot-clause-failed_once : goal.returns-then-not-has_slot-clause-failed_once
+returns-then-not-has_slot-clause-failed_once g c = λ failed unready.
+    absurd (true≢false (sym (c.keep_own.ensures.same.0 ∙ c.in_ok-find_pages.ensures.ready) ∙ unready))
+
+pub returns-then-not-has_slot-clause-slotted : goal.returns-then-not-has_slot-clause-slotted
+returns-then-not-has_slot-clause-slotted g c = λ n far takes failed.
+    absurd (full_absurd g (goal.at.returns-then-not-has_slot-clause-slotted g c).After-keep_own n far takes
+    (c.has_slot.ensures.no c.if-not-has_slot.true))
+
+pub returns-clause-gives_up : goal.returns-clause-gives_up
+returns-clause-gives_up g c = λ failed ready.
+    absurd (true≢false (sym ready ∙ err_holds c.put_next.result c.put_next.ensures.unready failed))
+
+pub returns-clause-failed_once : goal.returns-clause-failed_once
+returns-clause-failed_once g c = λ failed unready.
+    let same = (c.in_ok-find_pages.ensures.light.ok refl).faults in
+    let more = (c.put_next.ensures.light.fault failed).faults in
+    omega (arith, same, more)
+
+pub returns-clause-slotted : goal.returns-clause-slotted
+returns-clause-slotted g c = λ n far takes failed.
+    err_holds c.put_next.result c.put_next.ensures.unready failed
+
+pub returns-in_err-find_pages-clause-turn : goal.returns-in_err-find_pages-clause-turn
+returns-in_err-find_pages-clause-turn g c = ap (turn_of g.F.Flash.SLOTS) c.find_pages.ensures.words
+
+pub returns-then-not-has_slot-clause-turn : goal.returns-then-not-has_slot-clause-turn
+returns-then-not-has_slot-clause-turn g c = ap (turn_of g.F.Flash.SLOTS) c.find_pages.ensures.words
+
+pub returns-clause-turn : goal.returns-clause-turn
+returns-clause-turn g c = c.put_next.ensures.turn ∙ ap (turn_of g.F.Flash.SLOTS) c.find_pages.ensures.words
+
+pub returns-in_err-find_pages-clause-begins : goal.returns-in_err-find_pages-clause-begins
+returns-in_err-find_pages-clause-begins g c = λ extra n fits stands begins.
+    begins_later g.F.Flash.SLOTS
+    (log_value g.F.Flash.PAGES g.F.Flash.SLOTS g.F.Flash.SECTORS (g.F.Flash.state c.find_pages.new.flash)
+    c.find_pages.new.place) n (n + 1) (omega arith)
+    (begins_lost g.F.Flash.PAGES g.F.Flash.SLOTS g.F.Flash.SECTORS (g.F.Flash.state c.args.flash.now)
+    (g.F.Flash.state c.find_pages.new.flash) c.args.place.now c.find_pages.new.place n c.requires.unready
+    c.in_err-find_pages.ensures.unready c.find_pages.ensures.tried c.find_pages.ensures.words begins)
+
+pub returns-in_err-find_pages-clause-passes : goal.returns-in_err-find_pages-clause-passes
+returns-in_err-find_pages-clause-passes g c = λ failed extra n fits stands begins.
+    let old = g.F.Flash.state c.args.flash.now in
+    let mid = g.F.Flash.state c.find_pages.new.flash in
+    begins_later g.F.Flash.SLOTS
+    (log_value g.F.Flash.PAGES g.F.Flash.SLOTS g.F.Flash.SECTORS mid c.find_pages.new.place) n
+    (n + (mid.faults - old.faults)) (omega arith)
+    (begins_lost g.F.Flash.PAGES g.F.Flash.SLOTS g.F.Flash.SECTORS old mid c.args.place.now c.find_pages.new.place n
+    c.requires.unready c.in_err-find_pages.ensures.unready c.find_pages.ensures.tried c.find_pages.ensures.words begins)
+
+-- the slots behind the next one that was found are free, and it is that of the try
+own_begins : (g : Over) (c : After-keep_own g) (extra n : ℕ)
+    → WillKeepPace g.F.Flash.PAGES g.F.Flash.SLOTS g.F.Flash.SECTORS g.F.Flash.sector_start
+    (g.F.Flash.state c.args.flash.now).words extra c.args.place.now
+    → BeginsBy g.F.Flash.SLOTS (log_value g.F.Flash.PAGES g.F.Flash.SLOTS g.F.Flash.SECTORS
+    (g.F.Flash.state c.args.flash.now) c.args.place.now) n
+    → AreFree (g.F.Flash.state c.find_pages.new.flash).words
+    (base_in g.F.Flash.SLOTS (turn_of g.F.Flash.SLOTS (g.F.Flash.state c.find_pages.new.flash).words))
+    c.keep_own.new.place.next g.F.Flash.SLOTS × (c.keep_own.new.place.next ≤ n)
+own_begins g c = λ extra n stands begins.
+    let slots = g.F.Flash.SLOTS in
+    let pages = g.F.Flash.PAGES in
+    let sectors = g.F.Flash.SECTORS in
+    let old = g.F.Flash.state c.args.flash.now in
+    let mid = g.F.Flash.state c.find_pages.new.flash in
+    let p = c.args.place.now in
+    let r = c.keep_own.new.place in
+    let known = own_place g c in
+    let free : AreFree mid.words (base_in slots (turn_of slots mid.words)) r.next slots =
+    subst (λ (t : ℕ). AreFree mid.words (base_in slots t) r.next slots) known.turn known.free in
+    let next = c.keep_own.ensures.same.1 in
+    let is = c.in_ok-find_pages.ensures.is_next c.requires.unready
+    (tried_within pages slots sectors g.F.Flash.sector_start old.words extra p c.requires.unready stands) in
+    let most = begins_tried pages slots sectors old p n c.find_pages.new.place.next c.requires.unready begins is in
+    (free, omega (arith, next, most))
+
+pub returns-then-not-has_slot-clause-begins : goal.returns-then-not-has_slot-clause-begins
+returns-then-not-has_slot-clause-begins g c = λ extra n fits stands begins.
+    let mid = g.F.Flash.state c.find_pages.new.flash in
+    let r = c.keep_own.new.place in
+    let is = own_begins g (goal.at.returns-then-not-has_slot-clause-begins g c).After-keep_own extra n stands begins in
+    let most = is.1 in
+    begins_at g.F.Flash.PAGES g.F.Flash.SLOTS g.F.Flash.SECTORS mid r r.next (n + 1) is.0 (λ ready. omega arith)
+    (λ unready. absurd (true≢false (sym (c.keep_own.ensures.same.0 ∙ c.in_ok-find_pages.ensures.ready) ∙ unready)))
+    (omega (arith, most))
+
+pub returns-clause-begins : goal.returns-clause-begins
+returns-clause-begins g c = λ extra n fits stands begins.
+    let slots = g.F.Flash.SLOTS in
+    let pages = g.F.Flash.PAGES in
+    let sectors = g.F.Flash.SECTORS in
+    let mid = g.F.Flash.state c.find_pages.new.flash in
+    let new = g.F.Flash.state c.put_next.new.flash in
+    let r = c.keep_own.new.place in
+    let most = (own_begins g (goal.at.returns-clause-begins g c).After-keep_own extra n stands begins).1 in
+    begins_behind slots r.next 1 (n + 1) (log_value pages slots sectors mid r)
+    (log_value pages slots sectors new c.put_next.new.place) (omega (arith, most))
+    (c.put_next.ensures.slots extra
+    (own_stepped g (goal.at.returns-clause-begins g c).After-put_next extra
+    (own_pace g (goal.at.returns-clause-begins g c).After-keep_own extra fits stands)))
+
+pub returns-then-not-has_slot-clause-passes : goal.returns-then-not-has_slot-clause-passes
+returns-then-not-has_slot-clause-passes g c = λ failed extra n fits stands begins.
+    let old = g.F.Flash.state c.args.flash.now in
+    let mid = g.F.Flash.state c.find_pages.new.flash in
+    let r = c.keep_own.new.place in
+    let is = own_begins g (goal.at.returns-then-not-has_slot-clause-passes g c).After-keep_own extra n stands begins in
+    let most = is.1 in
+    begins_at g.F.Flash.PAGES g.F.Flash.SLOTS g.F.Flash.SECTORS mid r r.next (n + (mid.faults - old.faults)) is.0
+    (λ ready. omega arith)
+    (λ unready. absurd (true≢false (sym (c.keep_own.ensures.same.0 ∙ c.in_ok-find_pages.ensures.ready) ∙ unready)))
+    (omega (arith, most))
+
+pub returns-clause-passes : goal.returns-clause-passes
+returns-clause-passes g c = λ failed extra n fits stands begins.
+    let old = g.F.Flash.state c.args.flash.now in
+    let new = g.F.Flash.state c.put_next.new.flash in
+    let same = (c.in_ok-find_pages.ensures.light.ok refl).faults in
+    let more = (c.put_next.ensures.light.fault failed).faults in
+    begins_later g.F.Flash.SLOTS
+    (log_value g.F.Flash.PAGES g.F.Flash.SLOTS g.F.Flash.SECTORS new c.put_next.new.place) (n + 1)
+    (n + (new.faults - old.faults)) (omega (arith, same, more))
+    (returns-clause-begins g c extra n fits stands begins)

@@ -1,15 +1,18 @@
-use Rattle.std.proofs.Common.{◌≡◌, ◌≤◌, ◌+◌, ◌-◌, ◌*◌, ℕ, length, Err, ap, arith, true≢false}
-use Rattle.std.proofs.Common.{sym}
+use Rattle.std.proofs.Common.{◌≡◌, ◌≤◌, ◌+◌, ◌-◌, ◌*◌, ℕ, length, Err, ap, inl, inr, ⊎_elim, arith, true≢false}
+use Rattle.std.proofs.Common.{sym, ◌∙◌}
 use Rattle.std.proofs.lemmas.Result.{on_ok_weaker}
 use Rattle.flash_device.specs.FlashCalls.{KeepsPower}
-use Rattle.flash_device.specs.FlashLogs.{words_of}
+use Rattle.flash_device.specs.FlashLogs.{base_in, words_of}
 use Rattle.flash_area.specs.laws.Words.{length-words}
-use Rattle.flash_moves.specs.Paces.{IsRoomy, WillKeepPace, failed_since, lost_since}
+use Rattle.flash_moves.specs.Paces.{IsRoomy, StaysInArea, WillKeepPace, failed_since, lost_since}
 use Rattle.flash_moves.specs.Places.{log_value}
+use Rattle.flash_moves.specs.declared.ahead.TheConstants.{TRIES}
 use Rattle.flash_log.specs.laws.Ending.{will_more}
 use Rattle.flash_moves.specs.laws.Lighting.{tries_faults}
 use Rattle.flash_moves.specs.laws.Pacing.{found_so}
+use Rattle.flash_log.specs.SlotsInTurn.{BeginsBy, GivesUp}
 use Rattle.flash_log.specs.laws.Retrying.{holds_ok, ok_holds, tries_behind}
+use Rattle.flash_log.specs.laws.Beginning.{begins_later}
 use Rattle.flash_log.specs.laws.TakingTurns.{takes_more, takes_then}
 use Rattle.flash_moves.specs.laws.Writing.{done_again, whole_again}
 use Rattle.flash_log.proofs.tries.write_at.Given.{Over}
@@ -45,6 +48,9 @@ returns-in-Err-PowerLost-clause-slots g c = λ n far takes.
 pub returns-in-Err-PowerLost-clause-tries : goal.returns-in-Err-PowerLost-clause-tries
 returns-in-Err-PowerLost-clause-tries g c = λ n far takes.
     let once = c.in-Err-PowerLost.ensures.once n (omega (arith, far)) takes in omega (arith, once)
+
+pub returns-in-Ok-clause-pause : goal.returns-in-Ok-clause-pause
+returns-in-Ok-clause-pause g c = c.in-Ok.ensures.pause
 
 pub returns-in-Err-PowerLost-clause-pause : goal.returns-in-Err-PowerLost-clause-pause
 returns-in-Err-PowerLost-clause-pause g c = λ extra roomy.
@@ -244,3 +250,107 @@ returns-clause-tries g c = λ n far takes.
     let once = c.in-Err-Fault.ensures.once n (omega (arith, far)) takes in
     let most = c.try_again.ensures.most in
     omega (arith, once, most)
+
+pub try_again-requires-clause-unready : goal.try_again-requires-clause-unready
+try_again-requires-clause-unready g c = c.in-Err-Fault.ensures.unready
+
+pub returns-clause-gives_up : goal.returns-clause-gives_up
+returns-clause-gives_up g c = λ failed. ⊎_elim
+    (λ (many : (g.F.Flash.state c.write_once.new.flash).faults + TRIES
+    ≤ (g.F.Flash.state c.try_again.new.flash).faults + 1).
+    let first = (first_failed g (goal.at.returns-clause-gives_up g c).After-try_again).1 in
+    inl (omega (arith, many, first)))
+    (λ (up : GivesUp g.F.Flash.PAGES g.F.Flash.SLOTS g.F.Flash.SECTORS g.F.Flash.sector_start c.args.page
+    (log_value g.F.Flash.PAGES g.F.Flash.SLOTS g.F.Flash.SECTORS (g.F.Flash.state c.try_again.new.flash)
+    c.try_again.new.place)). inr up)
+    (c.try_again.ensures.gives_up failed)
+
+pub returns-in-Ok-clause-begins : goal.returns-in-Ok-clause-begins
+returns-in-Ok-clause-begins g c = λ extra n roomy stands stays begins.
+    begins_later g.F.Flash.SLOTS
+    (log_value g.F.Flash.PAGES g.F.Flash.SLOTS g.F.Flash.SECTORS (g.F.Flash.state c.write_once.new.flash)
+    c.write_once.new.place) (n + 1) (n + 1 + ((g.F.Flash.state c.write_once.new.flash).faults
+    - (g.F.Flash.state c.args.flash.now).faults)) (omega arith)
+    (c.write_once.ensures.begins extra n roomy stands stays begins)
+
+pub returns-in-Err-PowerLost-clause-begins : goal.returns-in-Err-PowerLost-clause-begins
+returns-in-Err-PowerLost-clause-begins g c = λ extra n roomy stands stays begins.
+    begins_later g.F.Flash.SLOTS
+    (log_value g.F.Flash.PAGES g.F.Flash.SLOTS g.F.Flash.SECTORS (g.F.Flash.state c.write_once.new.flash)
+    c.write_once.new.place) (n + 1) (n + 1 + ((g.F.Flash.state c.write_once.new.flash).faults
+    - (g.F.Flash.state c.args.flash.now).faults)) (omega arith)
+    (c.write_once.ensures.begins extra n roomy stands stays begins)
+
+-- the next write begins behind the first try, and behind it the log is in pace
+first_begins : (g : Over) (c : After-try_again g) (extra n : ℕ)
+    → IsRoomy g.F.Flash.PAGES g.F.Flash.SLOTS g.F.Flash.SECTORS
+    (extra + failed_since (g.F.Flash.state c.args.flash.now) (g.F.Flash.state c.try_again.new.flash))
+    → WillKeepPace g.F.Flash.PAGES g.F.Flash.SLOTS g.F.Flash.SECTORS g.F.Flash.sector_start
+    (g.F.Flash.state c.args.flash.now).words extra c.args.place.now
+    → StaysInArea g.F.Flash.SLOTS (g.F.Flash.state c.args.flash.now).words
+    (g.F.Flash.state c.try_again.new.flash).words
+    → BeginsBy g.F.Flash.SLOTS (log_value g.F.Flash.PAGES g.F.Flash.SLOTS g.F.Flash.SECTORS
+    (g.F.Flash.state c.args.flash.now) c.args.place.now) n
+    → BeginsBy g.F.Flash.SLOTS (log_value g.F.Flash.PAGES g.F.Flash.SLOTS g.F.Flash.SECTORS
+    (g.F.Flash.state c.write_once.new.flash) c.write_once.new.place) (n + 1)
+    × WillKeepPace g.F.Flash.PAGES g.F.Flash.SLOTS g.F.Flash.SECTORS g.F.Flash.sector_start
+    (g.F.Flash.state c.write_once.new.flash).words
+    (extra + failed_since (g.F.Flash.state c.args.flash.now) (g.F.Flash.state c.write_once.new.flash))
+    c.write_once.new.place
+first_begins g c = λ extra n roomy stands stays begins.
+    let slots = g.F.Flash.SLOTS in
+    let pages = g.F.Flash.PAGES in
+    let sectors = g.F.Flash.SECTORS in
+    let start = g.F.Flash.sector_start in
+    let old = g.F.Flash.state c.args.flash.now in
+    let mid = g.F.Flash.state c.write_once.new.flash in
+    let new = g.F.Flash.state c.try_again.new.flash in
+    let due = (first_failed g c).0.due in
+    let more = tries_faults 0 mid new c.try_again.result c.try_again.ensures.light in
+    let still : StaysInArea slots old.words mid.words =
+    sym (ap (base_in slots) c.try_again.ensures.turn) ∙ stays in (
+      c.write_once.ensures.begins extra n (omega (arith, roomy, more)) stands still begins,
+      will_more pages slots sectors start mid.words (extra + lost_since old mid)
+          (extra + failed_since old mid) c.write_once.new.place (omega (arith, due))
+          (c.write_once.ensures.stands extra (omega (arith, roomy, more)) stands),
+    )
+
+pub returns-clause-begins : goal.returns-clause-begins
+returns-clause-begins g c = λ extra n roomy stands stays begins.
+    let slots = g.F.Flash.SLOTS in
+    let pages = g.F.Flash.PAGES in
+    let sectors = g.F.Flash.SECTORS in
+    let old = g.F.Flash.state c.args.flash.now in
+    let mid = g.F.Flash.state c.write_once.new.flash in
+    let new = g.F.Flash.state c.try_again.new.flash in
+    let run = (goal.at.returns-clause-begins g c).After-try_again in
+    let met = (first_failed g run).1 in
+    let more = tries_faults 0 mid new c.try_again.result c.try_again.ensures.light in
+    let one = first_begins g run extra n roomy stands stays begins in
+    begins_later slots (log_value pages slots sectors new c.try_again.new.place)
+    (n + 1 + 1 + (new.faults - mid.faults)) (n + 1 + (new.faults - old.faults)) (omega (arith, met, more))
+    (c.try_again.ensures.begins (extra + failed_since old mid) (n + 1) (omega (arith, roomy, more)) one.1 one.0)
+
+pub returns-clause-passes : goal.returns-clause-passes
+returns-clause-passes g c = λ failed extra n roomy stands stays begins.
+    let slots = g.F.Flash.SLOTS in
+    let pages = g.F.Flash.PAGES in
+    let sectors = g.F.Flash.SECTORS in
+    let old = g.F.Flash.state c.args.flash.now in
+    let mid = g.F.Flash.state c.write_once.new.flash in
+    let new = g.F.Flash.state c.try_again.new.flash in
+    let run = (goal.at.returns-clause-passes g c).After-try_again in
+    let met = (first_failed g run).1 in
+    let more = tries_faults 0 mid new c.try_again.result c.try_again.ensures.light in
+    let one = first_begins g run extra n roomy stands stays begins in
+    begins_later slots (log_value pages slots sectors new c.try_again.new.place)
+    (n + 1 + (new.faults - mid.faults)) (n + (new.faults - old.faults)) (omega (arith, met, more))
+    (c.try_again.ensures.passes failed (extra + failed_since old mid) (n + 1) (omega (arith, roomy, more)) one.1 one.0)
+
+pub returns-in-Ok-clause-steps : goal.returns-in-Ok-clause-steps
+returns-in-Ok-clause-steps g c = c.in-Ok.ensures.steps
+
+pub returns-clause-steps : goal.returns-clause-steps
+returns-clause-steps g c =
+    let met = met_fault g (goal.at.returns-clause-steps g c).After-try_again in
+    ok_holds c.try_again.result (λ ok extra roomy same. absurd (omega (arith, met, same)))

@@ -1,4 +1,4 @@
-use Rattle.std.proofs.Common.{◌≡◌, ◌⊎◌, ◌<◌, ◌≤◌, ◌+◌, ◌-◌, ◌*◌, ℕ, Bool, true, List, refl, ap, subst, inl, inr}
+use Rattle.std.proofs.Common.{◌≡◌, ◌⊎◌, ◌<◌, ◌≤◌, ◌+◌, ◌-◌, ◌*◌, ℕ, Bool, true, List, refl, ap, sym, subst, inl, inr}
 use Rattle.std.proofs.Common.{⊎_elim, ◌∙◌, arith, if◌then◌else◌}
 use Rattle.std.proofs.lemmas.Result.{on_ok_weaker}
 use Rattle.nvm_board.specs.History.{written}
@@ -14,6 +14,7 @@ use Rattle.flash_moves.specs.laws.Lighting.{lights_faults, lights_once}
 use Rattle.flash_moves.specs.laws.Pacing.{failed_not_ok, found_so, free_known, free_of, short_then, stands_more}
 use Rattle.flash_moves.specs.laws.Pacing.{stepped_more, stepped_paced}
 use Rattle.flash_log.specs.laws.Retrying.{holds_ok, lights_tries, ok_holds, tries_behind}
+use Rattle.flash_log.specs.laws.Beginning.{begins_behind, begins_later, begins_next}
 use Rattle.flash_log.specs.laws.TakingTurns.{far_stepped, finds_takes, finds_then, next_is, put_once, takes_pace}
 use Rattle.flash_log.proofs.tries.write_once.Given.{Over}
 use Rattle.flash_log.proofs.tries.write_once.Goals.{After-put_next}
@@ -304,3 +305,43 @@ returns-clause-once g c = λ n far takes.
     put_once g.F.Flash.PAGES g.F.Flash.SLOTS g.F.Flash.SECTORS (g.F.Flash.state c.args.flash.now) mid new
     c.args.place.now c.prepare.new.place n c.in_ok-prepare.ensures.ready (c.prepare.ensures.turns n far takes)
     (lights_once mid new c.put_next.result c.put_next.ensures.light)
+
+pub returns-in_err-prepare-clause-begins : goal.returns-in_err-prepare-clause-begins
+returns-in_err-prepare-clause-begins g c = λ extra n roomy stands stays begins.
+    begins_later g.F.Flash.SLOTS
+    (log_value g.F.Flash.PAGES g.F.Flash.SLOTS g.F.Flash.SECTORS (g.F.Flash.state c.prepare.new.flash)
+    c.prepare.new.place) n (n + 1) (omega arith)
+    (c.prepare.ensures.begins extra n roomy stands stays begins)
+
+pub returns-clause-begins : goal.returns-clause-begins
+returns-clause-begins g c = λ extra n roomy stands stays begins.
+    let slots = g.F.Flash.SLOTS in
+    let pages = g.F.Flash.PAGES in
+    let sectors = g.F.Flash.SECTORS in
+    let old = g.F.Flash.state c.args.flash.now in
+    let mid = g.F.Flash.state c.prepare.new.flash in
+    let new = g.F.Flash.state c.put_next.new.flash in
+    let q = c.prepare.new.place in
+    let more = lights_faults mid new c.put_next.result c.put_next.ensures.light in
+    let ready = c.in_ok-prepare.ensures.ready in
+    let known = c.prepare.ensures.log.known ready in
+    let here = c.prepare.ensures.begins extra n (omega (arith, roomy, more)) stands
+    (sym (ap (base_in slots) c.put_next.ensures.turn) ∙ stays) begins in
+    let most = begins_next pages slots sectors mid q n ready
+    (subst (λ (t : ℕ). AreFree mid.words (base_in slots t) q.next slots) known.turn known.free) here in
+    begins_behind slots q.next 1 (n + 1) (log_value pages slots sectors mid q)
+    (log_value pages slots sectors new c.put_next.new.place) (omega (arith, most))
+    (c.put_next.ensures.slots (extra + failed_since old mid)
+    ((c.in_ok-prepare.ensures.pause extra (omega (arith, roomy, more))).stays stands refl))
+
+pub returns-clause-steps : goal.returns-clause-steps
+returns-clause-steps g c = ok_holds c.put_next.result (λ ok extra roomy same pace due stays.
+    let slots = g.F.Flash.SLOTS in
+    let mid = g.F.Flash.state c.prepare.new.flash in
+    let new = g.F.Flash.state c.put_next.new.flash in
+    let less = (c.in_ok-prepare.ensures.light.ok refl).faults in
+    let more = lights_faults mid new c.put_next.result c.put_next.ensures.light in
+    let step = c.put_next.ensures.step in
+    let one = c.in_ok-prepare.ensures.steps extra roomy (omega (arith, same, less, more)) pace due
+    (sym (ap (base_in slots) c.put_next.ensures.turn) ∙ stays) in
+    omega (arith, step, one))

@@ -1,9 +1,9 @@
 use Rattle.std.proofs.Common.{◌≡◌, ◌≤◌, ◌+◌, ◌-◌, ◌*◌, ℕ, false, refl, sym, subst, inl, inr, ◌∙◌, true≢false, arith}
-use Rattle.std.proofs.Common.{IsOk, IsErr}
+use Rattle.std.proofs.Common.{IsOk, IsErr, ap}
 use Rattle.std.proofs.lemmas.Result.{on_ok_weaker}
 use Rattle.flash_device.specs.FlashBlocks.{area_size}
 use Rattle.flash_device.specs.FlashCalls.{SameElsewhere}
-use Rattle.flash_device.specs.FlashLogs.{base_in, words_of}
+use Rattle.flash_device.specs.FlashLogs.{base_in, turn_of, words_of}
 use Rattle.flash_moves.specs.Paces.{HasMoved, IsInPaceFrom, IsRoomy, failed_since, lead_of, lost_since, lost_slots}
 use Rattle.flash_area.specs.Spares.{HasCopies, IsSpare, spare_in}
 use Rattle.flash_area.specs.laws.Copying.{area_free}
@@ -12,7 +12,8 @@ use Rattle.flash_moves.specs.laws.Moving.{Stays}
 use Rattle.flash_moves.specs.laws.Lighting.{tries_faults}
 use Rattle.flash_moves.specs.laws.Losing.{by_result, copied_takes, copy_in_pace, err_lost, pass_in_pace, stepped_failed}
 use Rattle.flash_moves.specs.laws.Pacing.{from_more, paced_behind, stepped_fresh, stepped_more}
-use Rattle.flash_moves.specs.laws.Sparing.{index_same, log_anew, spare_copied, spare_leaves, spare_put, spare_stays}
+use Rattle.flash_moves.specs.laws.Sparing.{area_home, home_then, index_same, log_anew, pass_home, spare_copied}
+use Rattle.flash_moves.specs.laws.Sparing.{spare_leaves, spare_put, spare_stays, two_sides}
 use Rattle.flash_moves.proofs.ahead.copy_next.Goals as goal
 
 pub returns-in_err-behind-clause-words : goal.returns-in_err-behind-clause-words
@@ -391,3 +392,70 @@ returns-clause-stands g c = λ extra roomy due pace.
     let passes = c.in_ok-behind.ensures.passes in
     inl (stepped_failed pages slots sectors extra place c.in_ok-behind.behind (new.faults - old.faults)
     (extra + lost_since old new) (omega (arith, last, steps, most)) due (omega (arith, passes)) (omega arith) pace)
+
+pub returns-in_err-behind-clause-home : goal.returns-in_err-behind-clause-home
+returns-in_err-behind-clause-home g c =
+    let slots = g.F.Flash.SLOTS in
+    let m = (g.F.Flash.state c.args.flash.now).words in
+    let after = (g.F.Flash.state c.copy_step.new.flash).words in
+    let turn = c.args.place.now.turn in
+    let base = spare_in slots turn in
+    let known = c.requires.log.known c.requires.ready in
+    let wide : SameElsewhere m base (area_size slots) after =
+    elsewhere_wider m after base (20 * slots) base (area_size slots) (omega arith) (omega arith)
+    c.copy_step.ensures.elsewhere in
+    area_home slots m after turn known.turn (spare_leaves slots m after turn wide)
+
+pub returns-clause-home : goal.returns-clause-home
+returns-clause-home g c =
+    let slots = g.F.Flash.SLOTS in
+    let m = (g.F.Flash.state c.args.flash.now).words in
+    let after = (g.F.Flash.state c.copy_step.new.flash).words in
+    let turn = c.args.place.now.turn in
+    let base = spare_in slots turn in
+    let known = c.requires.log.known c.requires.ready in
+    let wide : SameElsewhere m base (area_size slots) after =
+    elsewhere_wider m after base (20 * slots) base (area_size slots) (omega arith) (omega arith)
+    c.copy_step.ensures.elsewhere in
+    area_home slots m after turn known.turn (spare_leaves slots m after turn wide)
+
+pub returns-then-place-copy_steps-clause-home : goal.returns-then-place-copy_steps-clause-home
+returns-then-place-copy_steps-clause-home g c =
+    let pages = g.F.Flash.PAGES in
+    let slots = g.F.Flash.SLOTS in
+    let m = (g.F.Flash.state c.args.flash.now).words in
+    let after = (g.F.Flash.state c.copy_step.new.flash).words in
+    let turn = c.args.place.now.turn in
+    let base = spare_in slots turn in
+    let known = c.requires.log.known c.requires.ready in
+    let wide : SameElsewhere m base (area_size slots) after =
+    elsewhere_wider m after base (20 * slots) base (area_size slots) (omega arith) (omega arith)
+    c.copy_step.ensures.elsewhere in
+    let new = (g.F.Flash.state c.pass_turn.new.flash).words in
+    let stays : Stays pages slots m after =
+    spare_stays pages slots m after turn c.requires.log.ring known.turn known.small c.requires.moves.0 wide in
+    let is : turn ≡ turn_of slots after = known.turn ∙ sym stays.turn in
+    let last = c.if-place-copy_steps.true in
+    let steps = c.copy_steps.ensures in
+    let whole = g.met.F.Flash.pages_fit.2 in
+    let all : 16 * c.args.place.now.copied + 16 ≡ pages = omega (arith, last, steps, whole) in
+    let copies = subst (λ (n : ℕ). HasCopies pages slots after (words_of pages slots after) (base_in slots turn) base n
+    c.in_ok-behind.behind 0) all c.in_ok-behind.ensures.copies in
+    home_then slots m after new (ap (base_in slots) stays.turn)
+    (area_home slots m after turn known.turn (spare_leaves slots m after turn wide))
+    (area_home slots after new turn is
+    (pass_home pages slots after new turn c.in_ok-behind.behind stays.ring is known.small c.requires.moves.0 copies
+    c.pass_turn.ensures.elsewhere))
+
+pub returns-then-place-copy_steps-clause-next : goal.returns-then-place-copy_steps-clause-next
+returns-then-place-copy_steps-clause-next g c =
+    let slots = g.F.Flash.SLOTS in
+    let m = (g.F.Flash.state c.args.flash.now).words in
+    let after = (g.F.Flash.state c.pass_turn.new.flash).words in
+    let turn = c.args.place.now.turn in
+    let known = c.requires.log.known c.requires.ready in
+    let here : base_in slots turn ≡ base_in slots (turn_of slots m) = ap (base_in slots) known.turn in
+    on_ok_weaker c.pass_turn.result
+    (λ (there : base_in slots (turn_of slots after) ≡ spare_in slots turn).
+    λ same. absurd (two_sides slots turn (sym there ∙ same ∙ sym here)))
+    c.pass_turn.ensures.turned

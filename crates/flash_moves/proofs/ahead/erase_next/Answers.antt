@@ -6,7 +6,8 @@ use Rattle.flash_device.specs.FlashLogs.{base_in, words_of}
 use Rattle.flash_area.specs.Spares.{spare_in, spare_sector}
 use Rattle.flash_area.specs.laws.Copying.{area_free}
 use Rattle.flash_moves.specs.laws.Moving.{Stays}
-use Rattle.flash_moves.specs.laws.Sparing.{index_same, sector_within, spare_leaves, spare_more, spare_stays}
+use Rattle.flash_moves.specs.Paces.{KeepsHome}
+use Rattle.flash_moves.specs.laws.Sparing.{area_home, index_same, sector_within, spare_leaves, spare_more, spare_stays}
 use Rattle.flash_moves.specs.laws.Losing.{erase_in_pace}
 use Rattle.flash_moves.specs.laws.Pacing.{stepped_erased}
 use Rattle.flash_moves.proofs.ahead.erase_next.Given.{Over}
@@ -57,11 +58,11 @@ returns-clause-log g c =
       };
     }
 
--- the words are the same, whether the sector is erased or torn
-erase_words : (g : Over) (c : After-erase g)
-    → words_of g.F.Flash.PAGES g.F.Flash.SLOTS (g.F.Flash.state c.erase.new.self).words
-    ≡ words_of g.F.Flash.PAGES g.F.Flash.SLOTS (g.F.Flash.state c.args.flash.now).words
-erase_words g c =
+-- only the other area changes, whether the sector is erased or torn
+erase_elsewhere : (g : Over) (c : After-erase g)
+    → SameElsewhere (g.F.Flash.state c.args.flash.now).words (spare_in g.F.Flash.SLOTS c.args.place.now.turn)
+    (area_size g.F.Flash.SLOTS) (g.F.Flash.state c.erase.new.self).words
+erase_elsewhere g c =
     let slots = g.F.Flash.SLOTS in
     let pages = g.F.Flash.PAGES in
     let sectors = g.F.Flash.SECTORS in
@@ -71,18 +72,44 @@ erase_words g c =
     let m = (g.F.Flash.state c.args.flash.now).words in
     let after = (g.F.Flash.state c.erase.new.self).words in
     let place = c.args.place.now in
-    let known = c.requires.log.known c.requires.ready in
     let run : SameElsewhere m (start (spare_sector sectors place.turn + place.erased))
     (start (spare_sector sectors place.turn + place.erased + 1)
     - start (spare_sector sectors place.turn + place.erased)) after =
     subst (λ (s : ℕ). SameElsewhere m (start (s + place.erased))
     (start (s + place.erased + 1) - start (s + place.erased)) after) c.first_sector_of_spare.ensures.is
     c.erase.ensures.elsewhere in
-    let stays : Stays pages slots m after =
-    spare_stays pages slots m after place.turn c.requires.log.ring known.turn known.small c.requires.moves.0
-    (sector_within pages slots sectors start rise fit.0 fit.1 fit.2 fit.4 m after place.turn place.erased
-    c.requires.moves.1 run) in
+    sector_within pages slots sectors start rise fit.0 fit.1 fit.2 fit.4 m after place.turn place.erased
+    c.requires.moves.1 run
+
+-- so the words are the same
+erase_words : (g : Over) (c : After-erase g)
+    → words_of g.F.Flash.PAGES g.F.Flash.SLOTS (g.F.Flash.state c.erase.new.self).words
+    ≡ words_of g.F.Flash.PAGES g.F.Flash.SLOTS (g.F.Flash.state c.args.flash.now).words
+erase_words g c =
+    let known = c.requires.log.known c.requires.ready in
+    let stays : Stays g.F.Flash.PAGES g.F.Flash.SLOTS (g.F.Flash.state c.args.flash.now).words
+    (g.F.Flash.state c.erase.new.self).words =
+    spare_stays g.F.Flash.PAGES g.F.Flash.SLOTS (g.F.Flash.state c.args.flash.now).words
+    (g.F.Flash.state c.erase.new.self).words c.args.place.now.turn c.requires.log.ring known.turn known.small
+    c.requires.moves.0 (erase_elsewhere g c) in
     stays.words
+
+-- and so are the slots that are free
+erase_home : (g : Over) (c : After-erase g)
+    → KeepsHome g.F.Flash.SLOTS (g.F.Flash.state c.args.flash.now).words (g.F.Flash.state c.erase.new.self).words
+erase_home g c =
+    let slots = g.F.Flash.SLOTS in
+    let m = (g.F.Flash.state c.args.flash.now).words in
+    let after = (g.F.Flash.state c.erase.new.self).words in
+    let turn = c.args.place.now.turn in
+    area_home slots m after turn (c.requires.log.known c.requires.ready).turn
+    (spare_leaves slots m after turn (erase_elsewhere g c))
+
+pub returns-clause-home : goal.returns-clause-home
+returns-clause-home g c = erase_home g (goal.at.returns-clause-home g c).After-erase
+
+pub returns-in_err-erase-clause-home : goal.returns-in_err-erase-clause-home
+returns-in_err-erase-clause-home g c = erase_home g (goal.at.returns-in_err-erase-clause-home g c).After-erase
 
 pub returns-clause-words : goal.returns-clause-words
 returns-clause-words g c = erase_words g (goal.at.returns-clause-words g c).After-erase

@@ -4,7 +4,7 @@ use Rattle.flash_device.specs.FlashLogs.{base_in, words_of}
 use Rattle.flash_device.specs.PageTables.{AreFree, IsPageTable}
 use Rattle.flash_area.specs.laws.Copying.{SameArea, area_free}
 use Rattle.flash_moves.specs.laws.Moving.{witness_area}
-use Rattle.flash_moves.specs.laws.Sparing.{index_same, spare_none}
+use Rattle.flash_moves.specs.laws.Sparing.{area_home, index_same, spare_none}
 use Rattle.flash_moves.specs.laws.Losing.{witness_free, witness_in_pace}
 use Rattle.flash_moves.specs.laws.Pacing.{stepped_on}
 use Rattle.flash_moves.proofs.ahead.pass_on.Goals as goal
@@ -97,3 +97,25 @@ returns-clause-keeps_room g c = λ n far.
     let known = c.requires.log.known c.requires.ready in
     witness_free g.F.Flash.PAGES g.F.Flash.SLOTS m after n (sym known.turn ∙ c.requires.turn)
     c.pass_witness.ensures.area c.pass_witness.ensures.passes
+
+pub returns-in_err-pass_witness-clause-home : goal.returns-in_err-pass_witness-clause-home
+returns-in_err-pass_witness-clause-home g c =
+    let slots = g.F.Flash.SLOTS in
+    let m = (g.F.Flash.state c.args.flash.now).words in
+    let after = (g.F.Flash.state c.pass_witness.new.flash).words in
+    let known = c.requires.log.known c.requires.ready in
+    let one : base_in slots c.args.place.now.turn ≡ area_size slots = ap (base_in slots) c.requires.turn in
+    area_home slots m after c.args.place.now.turn known.turn
+    (subst (SameArea slots m after) (sym one)
+    (witness_area g.F.Flash.PAGES slots m after c.pass_witness.ensures.area))
+
+pub returns-clause-home : goal.returns-clause-home
+returns-clause-home g c =
+    let slots = g.F.Flash.SLOTS in
+    let m = (g.F.Flash.state c.args.flash.now).words in
+    let after = (g.F.Flash.state c.pass_witness.new.flash).words in
+    let known = c.requires.log.known c.requires.ready in
+    let one : base_in slots c.args.place.now.turn ≡ area_size slots = ap (base_in slots) c.requires.turn in
+    area_home slots m after c.args.place.now.turn known.turn
+    (subst (SameArea slots m after) (sym one)
+    (witness_area g.F.Flash.PAGES slots m after c.pass_witness.ensures.area))

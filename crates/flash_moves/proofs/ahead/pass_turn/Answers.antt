@@ -144,3 +144,17 @@ returns-clause-elsewhere g c =
     let m = (g.F.Flash.state c.args.flash.now).words in
     subst (λ (l : List ℕ). SameElsewhere m (close_of g.F.Flash.SLOTS c.args.place.now.turn) 2 l)
     (sym c.scan.ensures.words) c.close.ensures.elsewhere
+
+pub returns-clause-turned : goal.returns-clause-turned
+returns-clause-turned g c =
+    let slots = g.F.Flash.SLOTS in
+    let pages = g.F.Flash.PAGES in
+    let m = (g.F.Flash.state c.args.flash.now).words in
+    let after = (g.F.Flash.state c.close.new.flash).words in
+    let place = c.args.place.now in
+    let moves = c.requires.moves in
+    let next = c.spare-next.result in
+    let turn : turn_of slots after ≡ next =
+    pass_turn pages slots m after place.turn place.behind moves.2 c.requires.turn moves.0 moves.1 c.requires.copies
+    c.close.ensures.elsewhere next c.spare-next.ensures.zero c.spare-next.ensures.other c.in_ok-close.ensures.done in
+    ap (base_in slots) (ap (turn_of slots) c.scan.ensures.words ∙ turn) ∙ c.spare-next.ensures.is slots

@@ -176,3 +176,21 @@ returns-clause-stands g c = λ extra roomy pace.
     let due : slots ≤ c.args.place.now.next + lead_of g.F.Flash.PAGES g.F.Flash.SECTORS =
     omega (arith, near, lead, within) in
     c.copy_next.ensures.stands extra roomy due pace
+
+pub returns-then-place-eq1-clause-next : goal.returns-then-place-eq1-clause-next
+returns-then-place-eq1-clause-next g c = on_ok_weaker c.pass_on.result
+    (λ (step : c.pass_on.new.place ≡ record c.args.place.now {
+      ready = true;
+      turn = 2;
+      erased = 0;
+      copied = 0;
+      behind = 0;
+      older = 0;
+    }). λ same. ap (λ (p : PageMap _). p.next) step)
+    c.pass_on.ensures.step
+
+pub returns-then-place-sectors-clause-next : goal.returns-then-place-sectors-clause-next
+returns-then-place-sectors-clause-next g c = on_ok_weaker c.erase_next.result
+    (λ (step : c.erase_next.new.place ≡ record c.args.place.now { ready = true; erased = c.args.place.now.erased + 1 }).
+    λ same. ap (λ (p : PageMap _). p.next) step)
+    c.erase_next.ensures.step

@@ -3,12 +3,16 @@ use Rattle.std.proofs.Common.{◌∙◌, arith, inl, inr, true≢false}
 use Rattle.flash_area.specs.PageCopies.{KeepsOthers}
 use Rattle.flash_area.specs.Spares.{spare_in}
 use Rattle.flash_device.specs.FlashCalls.{SameElsewhere}
-use Rattle.flash_device.specs.FlashLogs.{base_in, find, page_word, slot_of, words_of}
+use Rattle.flash_device.specs.FlashBlocks.{area_size}
+use Rattle.flash_device.specs.FlashLogs.{base_in, find, page_word, slot_of, turn_of}
 use Rattle.flash_device.specs.PageTables.{AreFree}
 use Rattle.flash_device.specs.PutRecords.{IsPut}
-use Rattle.flash_moves.specs.Paces.{IsInPaceFrom, lost_since, IsInPace, KeepsPace}
+use Rattle.flash_moves.specs.Paces.{IsInPaceFrom, lost_since, IsInPace, KeepsHome, KeepsPace}
 use Rattle.flash_moves.specs.laws.Losing.{err_lost, in_pace_more, none_caught, older_caught, place_stands, tries_once}
 use Rattle.flash_moves.specs.laws.Pacing.{caught_more, from_more}
+use Rattle.flash_device.specs.laws.Marks.{elsewhere_wider}
+use Rattle.flash_moves.specs.laws.Moving.{Stays}
+use Rattle.flash_moves.specs.laws.Sparing.{area_home, home_read, spare_leaves}
 use Rattle.flash_moves.specs.laws.Catching.{older_has, older_lost, older_page, older_put, older_stays}
 use Rattle.flash_moves.proofs.writing.copy_older.Given.{Over}
 use Rattle.flash_moves.proofs.writing.copy_older.Goals.{After-put_in_spare}
@@ -50,35 +54,49 @@ put_in_spare-requires-clause-free g c =
     (subst (λ (l : List ℕ). AreFree l (spare_in slots place.turn) place.behind slots) (sym c.record_of.ensures.words)
     (older_has entries pages slots sectors start m place page known some names).free)
 
--- the words are the same, whether the copy is whole or torn
-put_words : (g : Over) (c : After-put_in_spare g)
-    → words_of g.F.Flash.PAGES g.F.Flash.SLOTS (g.F.Flash.state c.put_in_spare.new.flash).words
-    ≡ words_of g.F.Flash.PAGES g.F.Flash.SLOTS (g.F.Flash.state c.args.flash.now).words
-put_words g c =
+-- only the other area changes, whether the copy is whole or torn
+put_elsewhere : (g : Over) (c : After-put_in_spare g)
+    → SameElsewhere (g.F.Flash.state c.args.flash.now).words (spare_in g.F.Flash.SLOTS c.args.place.now.turn)
+    (20 * g.F.Flash.SLOTS) (g.F.Flash.state c.put_in_spare.new.flash).words
+put_elsewhere g c =
     let slots = g.F.Flash.SLOTS in
-    let pages = g.F.Flash.PAGES in
-    let sectors = g.F.Flash.SECTORS in
-    let start = g.F.Flash.sector_start in
-    let entries = g.F.Table.PageTable.entries in
     let m = (g.F.Flash.state c.args.flash.now).words in
+    let after = (g.F.Flash.state c.put_in_spare.new.flash).words in
+    subst (λ (b : ℕ). SameElsewhere m b (20 * slots) after) (c.spare.ensures.is slots)
+    (subst (λ (l : List ℕ). SameElsewhere l (base_in slots c.spare.result) (20 * slots) after)
+    c.record_of.ensures.words c.put_in_spare.ensures.elsewhere)
+
+-- so the turn and the words stay
+put_stays : (g : Over) (c : After-put_in_spare g)
+    → Stays g.F.Flash.PAGES g.F.Flash.SLOTS (g.F.Flash.state c.args.flash.now).words
+    (g.F.Flash.state c.put_in_spare.new.flash).words
+put_stays g c =
     let place = c.args.place.now in
-    let page = place.older - 1 in
     let known = c.requires.log.known c.requires.ready in
     let is_older = c.if-place-eq0.false in
+    let page = place.older - 1 in
     let names : page + 1 ≡ place.older = omega (arith, is_older) in
-    let some = g.met.F.Flash.sectors_fit.4 in
+    older_stays g.F.Table.PageTable.entries g.F.Flash.PAGES g.F.Flash.SLOTS g.F.Flash.SECTORS g.F.Flash.sector_start
+    (g.F.Flash.state c.args.flash.now).words place page known g.met.F.Flash.sectors_fit.4 names
+    (g.F.Flash.state c.put_in_spare.new.flash).words c.requires.log.ring (put_elsewhere g c)
+
+-- and so do the slots that are free
+put_home : (g : Over) (c : After-put_in_spare g)
+    → KeepsHome g.F.Flash.SLOTS (g.F.Flash.state c.args.flash.now).words
+    (g.F.Flash.state c.put_in_spare.new.flash).words
+put_home g c =
+    let slots = g.F.Flash.SLOTS in
+    let m = (g.F.Flash.state c.args.flash.now).words in
     let after = (g.F.Flash.state c.put_in_spare.new.flash).words in
-    let base = spare_in slots place.turn in
-    let there : base_in slots c.spare.result ≡ base = c.spare.ensures.is slots in
-    let elsewhere : SameElsewhere m base (20 * slots) after =
-    subst (λ (b : ℕ). SameElsewhere m b (20 * slots) after) there
-    (subst (λ (l : List ℕ). SameElsewhere l (base_in slots c.spare.result) (20 * slots) after)
-    c.record_of.ensures.words c.put_in_spare.ensures.elsewhere) in
-    (older_stays entries pages slots sectors start m place page known some names after c.requires.log.ring
-    elsewhere).words
+    let turn = c.args.place.now.turn in
+    let base = spare_in slots turn in
+    let known = c.requires.log.known c.requires.ready in
+    area_home slots m after turn known.turn (spare_leaves slots m after turn
+    (elsewhere_wider m after base (20 * slots) base (area_size slots) (omega arith) (omega arith) (put_elsewhere g c)))
 
 pub returns-in_err-slot-clause-words : goal.returns-in_err-slot-clause-words
-returns-in_err-slot-clause-words g c = put_words g (goal.at.returns-in_err-slot-clause-words g c).After-put_in_spare
+returns-in_err-slot-clause-words g c =
+    (put_stays g (goal.at.returns-in_err-slot-clause-words g c).After-put_in_spare).words
 
 pub returns-in_err-slot-clause-log : goal.returns-in_err-slot-clause-log
 returns-in_err-slot-clause-log g c =
@@ -159,7 +177,7 @@ pub returns-in_err-slot-clause-lost : goal.returns-in_err-slot-clause-lost
 returns-in_err-slot-clause-lost g c = put_lost g (goal.at.returns-in_err-slot-clause-lost g c).After-put_in_spare
 
 pub returns-clause-words : goal.returns-clause-words
-returns-clause-words g c = put_words g (goal.at.returns-clause-words g c).After-put_in_spare
+returns-clause-words g c = (put_stays g (goal.at.returns-clause-words g c).After-put_in_spare).words
 
 pub returns-clause-log : goal.returns-clause-log
 returns-clause-log g c =
@@ -303,3 +321,30 @@ returns-then-place-eq0-clause-stands g c = λ extra roomy pace.
     let place = c.args.place.now in
     inl (caught_more pages slots sectors extra (extra + lost_since flash flash) place (omega arith)
     (none_caught pages slots sectors extra place pace))
+
+pub returns-in_err-found-clause-turn : goal.returns-in_err-found-clause-turn
+returns-in_err-found-clause-turn g c = ap (turn_of g.F.Flash.SLOTS) c.record_of.ensures.words
+
+pub returns-in_err-found-clause-home : goal.returns-in_err-found-clause-home
+returns-in_err-found-clause-home g c =
+    home_read g.F.Flash.SLOTS (g.F.Flash.state c.args.flash.now).words (g.F.Flash.state c.record_of.new.flash).words
+    c.record_of.ensures.words
+
+pub returns-in_err-slot-clause-turn : goal.returns-in_err-slot-clause-turn
+returns-in_err-slot-clause-turn g c =
+    (put_stays g (goal.at.returns-in_err-slot-clause-turn g c).After-put_in_spare).turn
+
+pub returns-in_err-slot-clause-home : goal.returns-in_err-slot-clause-home
+returns-in_err-slot-clause-home g c = put_home g (goal.at.returns-in_err-slot-clause-home g c).After-put_in_spare
+
+pub returns-clause-turn : goal.returns-clause-turn
+returns-clause-turn g c = (put_stays g (goal.at.returns-clause-turn g c).After-put_in_spare).turn
+
+pub returns-clause-home : goal.returns-clause-home
+returns-clause-home g c = put_home g (goal.at.returns-clause-home g c).After-put_in_spare
+
+pub returns-then-place-SLOTS-clause-steps : goal.returns-then-place-SLOTS-clause-steps
+returns-then-place-SLOTS-clause-steps g c = λ below.
+    let full = c.if-place-SLOTS.true in
+    let slots = c.SLOTS.ensures in
+    absurd (omega (arith, full, slots, below))

@@ -1,9 +1,10 @@
 use Rattle.std.specs.Prelude.{IsErrOf}
 use Rattle.nvm_board.specs.declared.board.DeviceErr.TheVariants.{Fault}
-use Rattle.std.proofs.Common.{refl, sym, rules, true≢false, arith}
+use Rattle.std.proofs.Common.{◌+◌, ◌-◌, refl, sym, rules, true≢false, arith}
 use Rattle.nvm_board.specs.Facts.{address, IsLostRightly}
 use Rattle.nvm_board.specs.laws.Torn.{Torn-none}
 use Rattle.flash_board.specs.laws.Boards.{whole_torn}
+use Rattle.flash_log.specs.laws.Beginning.{begins_later}
 use Rattle.flash_log.specs.laws.Ending.{log_stands_more}
 use Rattle.flash_log.specs.laws.TakingTurns.{takes_more, takes_none}
 use Rattle.flash_board.proofs.flash_board.FlashBoardBoard.write.Goals as goal
@@ -222,3 +223,23 @@ pub returns-else-self-3-clause-keeps_trying : goal.returns-else-self-3-clause-ke
 returns-else-self-3-clause-keeps_trying g c = λ failed n far takes.
     let is : IsErrOf c.write-ended.result Fault = search rules in
     ((c.write-ended.ensures.keeps_trying n far takes).fault is).1
+
+pub returns-else-self-3-clause-gives_up : goal.returns-else-self-3-clause-gives_up
+returns-else-self-3-clause-gives_up g c = λ failed.
+    let is : IsErrOf c.write-ended.result Fault = search rules in
+    c.write-ended.ensures.gives_up is
+
+pub returns-then-self-clause-begins : goal.returns-then-self-clause-begins
+returns-then-self-clause-begins g c = λ extra n roomy stands stays begins.
+    let faults = c.args.self.now.log.flash.faults in
+    begins_later g.F.Flash.SLOTS c.args.self.now.log n (n + 1 + (faults - faults)) (omega arith) begins
+
+pub returns-then-self-2-clause-begins : goal.returns-then-self-2-clause-begins
+returns-then-self-2-clause-begins g c = λ extra n roomy stands stays begins.
+    let faults = c.args.self.now.log.flash.faults in
+    begins_later g.F.Flash.SLOTS c.args.self.now.log n (n + 1 + (faults - faults)) (omega arith) begins
+
+pub returns-else-self-3-clause-passes : goal.returns-else-self-3-clause-passes
+returns-else-self-3-clause-passes g c = λ failed.
+    let is : IsErrOf c.write-ended.result Fault = search rules in
+    c.write-ended.ensures.passes is

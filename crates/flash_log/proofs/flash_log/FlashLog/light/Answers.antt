@@ -17,6 +17,7 @@ returns-clause-log g c =
       tried = 0;
       fresh = true;
       free = 0;
+      left = 0;
     } in
     ap (λ (s : FlashState). new_log pages g.F.Flash.SLOTS s) c.light.ensures ∙ ap lit c.self.view_is
 

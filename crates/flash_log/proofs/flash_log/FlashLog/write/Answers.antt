@@ -1,13 +1,14 @@
-use Rattle.std.proofs.Common.{◌≡◌, ◌⊎◌, ◌<◌, ◌≤◌, ◌+◌, ◌-◌, ℕ, true, false, subst, arith}
+use Rattle.std.proofs.Common.{◌≡◌, ◌⊎◌, ◌<◌, ◌≤◌, ◌+◌, ◌-◌, ℕ, IsErrOf, true, false, subst, arith}
 use Rattle.std.proofs.lemmas.Result.{on_ok_weaker}
 use Rattle.flash_moves.specs.Paces.{IsBeforeMove, IsInPace, IsInPaceFrom, IsRoomy, KeepsPace, LogState, Pauses}
-use Rattle.flash_moves.specs.Paces.{RegainsSlots, StandsInPace, TakesSlot, WillKeepPace}
-use Rattle.flash_moves.specs.Paces.{extra_slots, failed_since, free_slots, is_paced, lead_of, lost_since}
+use Rattle.flash_moves.specs.Paces.{RegainsSlots, StandsInPace, StaysInArea, TakesSlot, WillKeepPace}
+use Rattle.flash_moves.specs.Paces.{extra_slots, failed_since, free_slots, is_paced, known_steps, lead_of, lost_since}
 use Rattle.flash_moves.specs.Places.{FindsFree, log_value, state_of}
-use Rattle.flash_log.specs.SlotsInTurn.{TakesInTurn, WillTake}
-use Rattle.flash_moves.specs.laws.Pacing.{paced_is, pauses_view, stands_view, takes_view, view_stands}
+use Rattle.nvm_board.specs.declared.board.DeviceErr.TheVariants.{Fault}
+use Rattle.flash_log.specs.SlotsInTurn.{BeginsBy, GivesUp, TakesInTurn, WillTake}
+use Rattle.flash_moves.specs.laws.Pacing.{free_of, left_of, paced_is, pauses_view, stands_view, takes_view, view_stands}
 use Rattle.flash_moves.specs.declared.ahead.TheConstants.{TRIES}
-use Rattle.flash_log.specs.laws.Retrying.{tries_view}
+use Rattle.flash_log.specs.laws.Retrying.{holds_ok, ok_holds, tries_view}
 use Rattle.flash_device.specs.FlashCalls.{Tries}
 use Rattle.flash_log.proofs.flash_log.FlashLog.write.Goals as goal
 
@@ -60,6 +61,70 @@ returns-clause-keeps_trying g c = λ n far.
     subst (λ (l : LogState). WillTake slots l n → Tries TRIES l.flash (state_of pages slots new) c.write_at.result)
     c.self.view_is
     (λ takes. tries_view pages slots TRIES old new c.write_at.result (c.write_at.ensures.keeps_trying n far takes))
+
+pub returns-clause-gives_up : goal.returns-clause-gives_up
+returns-clause-gives_up g c =
+    let slots = g.F.Flash.SLOTS in
+    let pages = g.F.Flash.PAGES in
+    let sectors = g.F.Flash.SECTORS in
+    let new = g.F.Flash.state c.write_at.new.flash in
+    subst (λ (l : LogState). IsErrOf c.write_at.result Fault → (l.flash.faults + TRIES ≤ new.faults)
+    ⊎ GivesUp pages slots sectors g.F.Flash.sector_start c.args.page
+    (log_value pages slots sectors new c.write_at.new.place)) c.self.view_is c.write_at.ensures.gives_up
+
+pub returns-clause-begins : goal.returns-clause-begins
+returns-clause-begins g c = λ extra n.
+    let slots = g.F.Flash.SLOTS in
+    let pages = g.F.Flash.PAGES in
+    let sectors = g.F.Flash.SECTORS in
+    let start = g.F.Flash.sector_start in
+    let old = g.F.Flash.state c.self.inside.flash in
+    let new = g.F.Flash.state c.write_at.new.flash in
+    let place = c.self.inside.place in
+    let after = log_value pages slots sectors new c.write_at.new.place in
+    subst (λ (l : LogState). IsRoomy pages slots sectors (extra + failed_since l.flash (state_of pages slots new))
+    → StandsInPace pages slots sectors start extra l → StaysInArea slots l.raw new.words → BeginsBy slots l n
+    → BeginsBy slots after (n + 1 + (new.faults - l.flash.faults))) c.self.view_is
+    (λ roomy stands. c.write_at.ensures.begins extra n roomy
+    (stands_view pages slots sectors extra start old.words place stands))
+
+pub returns-clause-passes : goal.returns-clause-passes
+returns-clause-passes g c = λ failed extra n.
+    let slots = g.F.Flash.SLOTS in
+    let pages = g.F.Flash.PAGES in
+    let sectors = g.F.Flash.SECTORS in
+    let start = g.F.Flash.sector_start in
+    let old = g.F.Flash.state c.self.inside.flash in
+    let new = g.F.Flash.state c.write_at.new.flash in
+    let place = c.self.inside.place in
+    let after = log_value pages slots sectors new c.write_at.new.place in
+    subst (λ (l : LogState). IsRoomy pages slots sectors (extra + failed_since l.flash (state_of pages slots new))
+    → StandsInPace pages slots sectors start extra l → StaysInArea slots l.raw new.words → BeginsBy slots l n
+    → BeginsBy slots after (n + (new.faults - l.flash.faults))) c.self.view_is
+    (λ roomy stands. c.write_at.ensures.passes failed extra n roomy
+    (stands_view pages slots sectors extra start old.words place stands))
+
+pub returns-clause-steps : goal.returns-clause-steps
+returns-clause-steps g c = ok_holds c.write_at.result (λ ok extra roomy.
+    let slots = g.F.Flash.SLOTS in
+    let pages = g.F.Flash.PAGES in
+    let sectors = g.F.Flash.SECTORS in
+    let old = g.F.Flash.state c.self.inside.flash in
+    let new = g.F.Flash.state c.write_at.new.flash in
+    let place = c.self.inside.place in
+    let last = c.write_at.new.place in
+    let steps = holds_ok c.write_at.result c.write_at.ensures.steps ok in
+    let ready = holds_ok c.write_at.result c.write_at.ensures.ready ok in
+    let left = left_of pages slots sectors last ready in
+    subst (λ (l : LogState). new.faults ≡ l.flash.faults → l.paced ≡ true → l.extra ≤ extra
+    → l.free ≤ lead_of pages sectors → StaysInArea slots l.raw new.words
+    → known_steps pages sectors last + 1 ≤ l.left) c.self.view_is
+    (λ same paced fits near stays.
+    let pace = paced_is pages slots sectors extra place paced fits in
+    let free = free_of pages slots sectors place pace.ready in
+    let before = left_of pages slots sectors place pace.ready in
+    let fewer = steps extra roomy same pace (omega (arith, free, near)) stays in
+    omega (arith, fewer, left, before)))
 
 pub returns-clause-tries : goal.returns-clause-tries
 returns-clause-tries g c = λ n far.
