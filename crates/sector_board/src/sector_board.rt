@@ -1,6 +1,6 @@
 //! The board on a flash with small sectors.
-ghost use Rattle.std.specs.Prelude.{◌≡◌, ◌+◌, ◌-◌, ◌*◌, ◌<◌, ◌≤◌, ◌↔◌, ◌⊎◌, if◌then◌else◌, true, false, length};
-ghost use Rattle.std.specs.Prelude.{All, IfOk, IsErr, IsErrOf, IsTrue, OnErr, OnOk, slice_index};
+ghost use Rattle.std.specs.Prelude.{◌≡◌, ◌+◌, ◌-◌, ◌*◌, ◌<◌, ◌≤◌, ◌↔◌, ◌⊎◌, ℕ, if◌then◌else◌, true, false};
+ghost use Rattle.std.specs.Prelude.{All, IfOk, IsErr, IsErrOf, IsTrue, OnErr, OnOk, length, slice_index};
 ghost use Rattle.nvm_board.specs.declared.board.DeviceErr.TheVariants as DeviceErr;
 ghost use Rattle.nvm_board.specs.declared.board.TheConstants.{SECRETS, COUNT_END};
 ghost use Rattle.nvm_board.specs.Facts.{AreWords, IsMemory};
@@ -178,6 +178,7 @@ impl<F: SectorFlash> Board for SectorBoard<F> {
     ghost use Rattle.nvm_board.specs.Facts.{address};
     ghost use Rattle.sector_board.specs.SectorFacts.{sector_facts, sector_state};
     ghost use Rattle.sector_board.specs.laws.SectorBoards.{sector_is_board};
+    ghost use Rattle.sector_log.specs.SectorPlaces.{GivesUpBehind, KeepsBeside};
     ghost use Rattle.sector_log.specs.SectorSpares.{sector_lead, spare_slot};
     ghost use Rattle.sector_log.specs.declared.steps.TheConstants.{TRIES};
 
@@ -235,6 +236,15 @@ impl<F: SectorFlash> Board for SectorBoard<F> {
         ensures tries { IsErrOf result DeviceErr.Fault → sector_lead F.SECTORS < (sector_state self.old).free
             → ((sector_state self.old).flash.faults + TRIES ≤ (sector_state self.new).flash.faults)
             × ((sector_state self.new).free + TRIES ≤ (sector_state self.old).free) }
+        // In a move too it fails only if more tries did than slots were free beside those of the steps, or eight; or if
+        // a step failed that has yet to copy another page again.
+        ensures keeps_trying { (k : ℕ) → IsErrOf result DeviceErr.Fault → 0 < (sector_state self.old).free
+            → (sector_state self.old).steps + k ≤ (sector_state self.old).free
+            → GivesUpBehind page k (sector_state self.old) (sector_state self.new) }
+        // Behind it, no fewer slots are free beside those of the steps than before, or than eight, but for one for each
+        // Fault.
+        ensures beside { 0 < (sector_state self.old).free → 0 < (sector_state self.new).free
+            → KeepsBeside (sector_state self.old) (sector_state self.new) }
         // While more free slots are known than a move begins at, and the flash doesn't fail, a write takes one of them,
         // and erases nothing: no step of a move is due.
         ensures calm { sector_lead F.SECTORS < (sector_state self.old).free
@@ -320,6 +330,8 @@ impl<F: FlashSocket + SectorFlash> Socket for SectorBoard<F> {
           flash = record (sector_state self.old).flash { dark = false };
           fresh = true;
           free = 0;
+          steps = 0;
+          older = 0;
         }) }
     {
         if self.is_worn_out() {

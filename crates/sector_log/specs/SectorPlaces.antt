@@ -1,5 +1,5 @@
 -- Where the pages of a flash with small sectors are, as working memory knows it.
-use Rattle.std.specs.Prelude.{◌≡◌, ◌⊎◌, ◌<◌, ◌≤◌, ◌+◌, ℕ, Bool, true, false, List}
+use Rattle.std.specs.Prelude.{◌≡◌, ◌≢◌, ◌⊎◌, ◌<◌, ◌≤◌, ◌+◌, ℕ, Bool, true, false, List, if◌then◌else◌}
 use Rattle.flash_moves.specs.declared.place.PageMap.{PageMap}
 use Rattle.sector_log.specs.declared.opening.SectorFault.{SectorFault}
 use Rattle.sector_log.specs.declared.opening.SectorFault.TheVariants.{NoLog, OutOfStep, PowerLost, Fault}
@@ -10,27 +10,72 @@ use Rattle.flash_moves.specs.Paces.{free_slots, is_fresh}
 use Rattle.flash_moves.specs.Places.{state_of}
 use Rattle.flash_moves.specs.Rings.{IsRing}
 use Rattle.sector_log.specs.SectorSpares.{HasRoomForSteps, IsSectorSpare, sector_lead, sector_steps}
+use Rattle.sector_log.specs.declared.steps.TheConstants.{TRIES}
 
 -- All that contracts know of a log: its flash, with the words of the board in place of its own, whether it has yet to
--- look for its pages, and has tried no slot, the free slots of the area in use that it knows, and its own words.
+-- look for its pages, and has tried no slot, the free slots of the area in use that it knows, the steps of the move
+-- that it knows to be left, the page whose copy may be older, by its number and 1, or 0, and its own words.
 pub record SectorLogState : Type 0 where
   pub flash : FlashState
   pub fresh : Bool
   pub free : ℕ
+  pub steps : ℕ
+  pub older : ℕ
   pub raw : List ℕ
 
+-- the steps that are left, by the place
+abbrev pub place_steps : {T : Type 0} → ℕ → ℕ → PageMap T → ℕ
+place_steps pages sectors p = sector_steps pages sectors p.turn p.erased p.copied
+
+-- the steps that the log knows to be left; none before it has found the pages
+abbrev pub known_sector_steps : {T : Type 0} → ℕ → ℕ → PageMap T → ℕ
+known_sector_steps pages sectors p = if p.ready then place_steps pages sectors p else 0
+
+-- the page whose copy may be older, by its number and 1, or 0, as far as the log knows it
+abbrev pub known_older : {T : Type 0} → PageMap T → ℕ
+known_older p = if p.ready then p.older else 0
+
 -- what contracts know of a log, by its flash and its place
-abbrev pub sector_log_value : {T : Type 0} → ℕ → ℕ → FlashState → PageMap T → SectorLogState
-sector_log_value pages slots s p = record {
+abbrev pub sector_log_value : {T : Type 0} → ℕ → ℕ → ℕ → FlashState → PageMap T → SectorLogState
+sector_log_value pages slots sectors s p = record {
   flash = state_of pages slots s;
   fresh = is_fresh p;
   free = free_slots slots p;
+  steps = known_sector_steps pages sectors p;
+  older = known_older p;
   raw = s.words;
 }
 
 -- the log of a flash whose pages are not found yet
 abbrev pub new_sector_log : ℕ → ℕ → FlashState → SectorLogState
-new_sector_log pages slots s = record { flash = state_of pages slots s; fresh = true; free = 0; raw = s.words }
+new_sector_log pages slots s = record {
+  flash = state_of pages slots s;
+  fresh = true;
+  free = 0;
+  steps = 0;
+  older = 0;
+  raw = s.words;
+}
+
+-- A write stops at its step: the copy of another page may be older, and the step that copies it again failed. No step
+-- is taken, and no slot is passed over.
+pub record StopsAtStep (page : ℕ) (old new : SectorLogState) : Type 0 where
+  pub some : old.older ≢ 0
+  pub other : old.older ≢ page + 1
+  pub older : new.older ≡ old.older
+  pub steps : new.steps ≡ old.steps
+  pub free : new.free ≡ old.free
+
+-- A write gives up behind eight faults, or behind more than these, or stops at its step.
+abbrev pub GivesUpBehind : ℕ → ℕ → SectorLogState → SectorLogState → Type 0
+GivesUpBehind page k old new = (old.flash.faults + TRIES ≤ new.flash.faults)
+    ⊎ ((old.flash.faults + k < new.flash.faults) ⊎ StopsAtStep page old new)
+
+-- Beside the slots of the steps, no fewer are free than before, or than the tries of a write, but for one for each
+-- fault of the flash.
+pub record KeepsBeside (old new : SectorLogState) : Type 0 where
+  pub beside : (new.steps + old.free + old.flash.faults ≤ old.steps + new.free + new.flash.faults)
+      ⊎ (new.steps + TRIES + old.flash.faults ≤ new.free + new.flash.faults)
 
 -- The place is that of the flash, by the entries of its table. Once pages are copied, each write takes a step.
 pub record IsSectorPlace {T : Type 0} (entries : T → List ℕ) (pages slots sectors : ℕ) (start : ℕ → ℕ) (m : List ℕ)
@@ -41,10 +86,6 @@ pub record IsSectorPlace {T : Type 0} (entries : T → List ℕ) (pages slots se
   pub free : AreFree m (base_in slots p.turn) p.next slots
   pub spare : IsSectorSpare pages slots sectors start m p.turn p.erased p.copied p.older
   pub goes_on : 0 < p.copied → slots ≤ p.next + sector_lead sectors
-
--- the steps that are left, by the place
-abbrev pub place_steps : {T : Type 0} → ℕ → ℕ → PageMap T → ℕ
-place_steps pages sectors p = sector_steps pages sectors p.turn p.erased p.copied
 
 -- The place is that of the flash, and the area in use has a free slot for each step that is left.
 pub record KeepsStep {T : Type 0} (entries : T → List ℕ) (pages slots sectors : ℕ) (start : ℕ → ℕ) (m : List ℕ)
@@ -78,6 +119,21 @@ pub record StaysInStep {T : Type 0} (pages slots sectors page : ℕ) (p : PageMa
 pub record EndsSectorStep {T : Type 0} (pages slots sectors : ℕ) (p q : PageMap T) : Type 0 where
   pub fewer : ((place_steps pages sectors q + 1 ≤ place_steps pages sectors p) × (q.next ≡ p.next))
       ⊎ (q.next + sector_lead sectors < slots)
+
+-- A step failed, and the move has come as far as before.
+pub record StaysAtStep {T : Type 0} (p q : PageMap T) : Type 0 where
+  pub ready : q.ready ≡ true
+  pub turn : q.turn ≡ p.turn
+  pub next : q.next ≡ p.next
+  pub erased : q.erased ≡ p.erased
+  pub copied : q.copied ≡ p.copied
+  pub older : q.older ≡ p.older
+
+-- A write can put its record: beside the slots of the steps, one more is free than before, or than the tries of a
+-- write, but for one for each fault between two numbers.
+pub record HasBeside {T : Type 0} (pages slots sectors before after : ℕ) (p q : PageMap T) : Type 0 where
+  pub beside : (place_steps pages sectors q + q.next + 1 + before ≤ place_steps pages sectors p + p.next + after)
+      ⊎ (place_steps pages sectors q + q.next + TRIES + 1 + before ≤ slots + after)
 
 -- Why the words of a flash are not taken: they have no log, or one that isn't in step.
 abbrev pub IsNotInStep : ℕ → ℕ → ℕ → (ℕ → ℕ) → List ℕ → SectorFault → Type 0

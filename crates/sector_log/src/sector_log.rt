@@ -28,7 +28,7 @@ impl<F: SectorFlash> Model for SectorLog<F> {
 
     ghost Value = { SectorLogState };
 
-    ghost view = { λ l. sector_log_value F.PAGES F.SLOTS (F.state l.flash) l.place };
+    ghost view = { λ l. sector_log_value F.PAGES F.SLOTS F.SECTORS (F.state l.flash) l.place };
 
     ghost invariant = { λ l. IsSectorLog F.Table.entries F.PAGES F.SLOTS F.SECTORS F.sector_start
         (F.state l.flash).words l.place };
@@ -41,7 +41,7 @@ impl<F: SectorFlash> SectorLog<F> {
     ghost use Rattle.flash_moves.specs.Places.{FindsFree, state_of};
     ghost use Rattle.flash_log.specs.Renewals.{HoldsOnlyPages};
     ghost use Rattle.flash_moves.specs.Rings.{IsRing};
-    ghost use Rattle.sector_log.specs.SectorPlaces.{SectorOpenStopsBy, new_sector_log};
+    ghost use Rattle.sector_log.specs.SectorPlaces.{GivesUpBehind, KeepsBeside, SectorOpenStopsBy, new_sector_log};
     ghost use Rattle.sector_log.specs.SectorSpares.{HasRoomForSteps, sector_lead, spare_slot};
 
     /// The log of a flash that has one.
@@ -149,6 +149,13 @@ impl<F: SectorFlash> SectorLog<F> {
         ensures tries { sector_lead F.SECTORS < self.old.free → Tries TRIES self.old.flash self.new.flash result }
         ensures gives_up { IsErrOf result DeviceErr.Fault → sector_lead F.SECTORS < self.old.free
             → self.new.free + TRIES ≤ self.old.free }
+        // In a move too it fails only if more tries did than slots were free beside those of the steps, or eight; or if
+        // a step failed that has yet to copy another page again.
+        ensures keeps_trying { (k : ℕ) → 0 < self.old.free → self.old.steps + k ≤ self.old.free
+            → IsErrOf result DeviceErr.Fault → GivesUpBehind page k self.old self.new }
+        // Behind it, no fewer slots are free beside those of the steps than before, or than eight, but for one for each
+        // Fault.
+        ensures beside { 0 < self.old.free → 0 < self.new.free → KeepsBeside self.old self.new }
         // While more free slots are known than a move begins at, and the flash doesn't fail, a write takes one of them,
         // and erases nothing: no step of a move is due.
         ensures calm { sector_lead F.SECTORS < self.old.free → self.new.flash.faults ≡ self.old.flash.faults
@@ -190,6 +197,8 @@ impl<F: FlashSocket + SectorFlash> SectorLog<F> {
           flash = record self.old.flash { dark = false };
           fresh = true;
           free = 0;
+          steps = 0;
+          older = 0;
         } }
     {
         self.place.ready = false;

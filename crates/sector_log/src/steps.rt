@@ -10,8 +10,9 @@ ghost use Rattle.flash_moves.specs.Paces.{free_slots, is_fresh};
 ghost use Rattle.flash_moves.specs.Places.{FindsFree};
 ghost use Rattle.flash_moves.specs.Rings.{IsRing};
 ghost use Rattle.nvm_board.specs.declared.board.DeviceErr.TheVariants as DeviceErr;
-ghost use Rattle.sector_log.specs.SectorPlaces.{EndsSectorStep, HasTakenStep, IsSectorLog, IsSectorPlace, KeepsStep};
-ghost use Rattle.sector_log.specs.SectorPlaces.{StaysInStep, place_steps};
+ghost use Rattle.sector_log.specs.SectorPlaces.{EndsSectorStep, HasBeside, HasTakenStep, IsSectorLog, IsSectorPlace};
+ghost use Rattle.sector_log.specs.SectorPlaces.{GivesUpBehind, KeepsBeside, KeepsStep, StaysAtStep, StaysInStep};
+ghost use Rattle.sector_log.specs.SectorPlaces.{known_sector_steps, place_steps, sector_log_value};
 ghost use Rattle.sector_log.specs.SectorSpares.{HasMovedSteps, HasRoomForSteps, IsSectorSpare, last_sectors};
 ghost use Rattle.sector_log.specs.SectorSpares.{sector_lead, sector_steps, spare_slot as spare_slot_of};
 ghost use Rattle.sector_log.specs.declared.steps.TheConstants.{TRIES};
@@ -21,7 +22,7 @@ use crate::layout::spare_slot;
 use crate::progress::{StepsTaken, find_steps};
 use crate::sector_flash::SectorFlash;
 use flash_area::{first_sector_of_spare, home, older_page, read_page_word, scan};
-use flash_device::{Flash, copy_steps};
+use flash_device::{Flash, PageTable, copy_steps};
 use flash_moves::{PageMap, find_turn, pass_turn, pass_witness, write_run};
 use nvm_board::DeviceErr;
 
@@ -141,7 +142,44 @@ pub fn find_pages<F: SectorFlash>(
     Ok(())
 }
 
-/// Passes the turn to the witness.
+/// Finds the turn, and the slot of each page.
+fn find_area<F: SectorFlash>(flash: &mut F, table: &mut F::Table) -> Result<u8, DeviceErr>
+    requires lit { (F.state flash.old).dark ≡ false }
+    ensures turn { IfOk result (λ t. (t ≡ turn_of F.SLOTS (F.state flash.new).words) × (t < 3)) }
+    ensures index { IfOk result (λ t. IsPageTable F.PAGES (F.state flash.new).words (base_in F.SLOTS t) F.SLOTS
+        (F.Table.entries table.new)) }
+    ensures words { (F.state flash.new).words ≡ (F.state flash.old).words }
+    ensures work { (F.state flash.new).operations ≡ (F.state flash.old).operations }
+    ensures erases { (F.state flash.new).erases ≡ (F.state flash.old).erases }
+    ensures light { Tries 1 (F.state flash.old) (F.state flash.new) result }
+{
+    let turn = find_turn(flash)?;
+    scan(flash, home(turn), table)?;
+    Ok(turn)
+}
+
+/// Finds the turn, and the slot of each page, behind a program that failed: a mark may have passed the turn. A Fault of
+/// the flash is returned only if as many tries failed.
+fn area_again<F: SectorFlash>(flash: &mut F, table: &mut F::Table) -> Result<u8, DeviceErr>
+    requires lit { (F.state flash.old).dark ≡ false }
+    ensures turn { IfOk result (λ t. (t ≡ turn_of F.SLOTS (F.state flash.new).words) × (t < 3)) }
+    ensures index { IfOk result (λ t. IsPageTable F.PAGES (F.state flash.new).words (base_in F.SLOTS t) F.SLOTS
+        (F.Table.entries table.new)) }
+    ensures words { (F.state flash.new).words ≡ (F.state flash.old).words }
+    ensures work { (F.state flash.new).operations ≡ (F.state flash.old).operations }
+    ensures erases { (F.state flash.new).erases ≡ (F.state flash.old).erases }
+    ensures light { Tries TRIES (F.state flash.old) (F.state flash.new) result }
+{
+    for _ in 1..TRIES {
+        match find_area(flash, table) {
+            Err(DeviceErr::Fault) => {}
+            ended => return ended,
+        }
+    }
+    find_area(flash, table)
+}
+
+/// Passes the turn to the witness. If its mark failed, the turn is looked for.
 fn pass_on<F: SectorFlash>(flash: &mut F, place: &mut PageMap<F::Table>) -> Result<(), DeviceErr>
     requires lit { (F.state flash.old).dark ≡ false }
     requires log { IsSectorLog F.Table.entries F.PAGES F.SLOTS F.SECTORS F.sector_start (F.state flash.old).words
@@ -154,6 +192,9 @@ fn pass_on<F: SectorFlash>(flash: &mut F, place: &mut PageMap<F::Table>) -> Resu
         place.new }
     ensures step { OnOk result (HasTakenStep F.PAGES F.SLOTS F.SECTORS place.new) }
     ensures ends { OnOk result (EndsSectorStep F.PAGES F.SLOTS F.SECTORS place.old place.new) }
+    ensures stays { OnErr result (place.new.ready ≡ true → StaysAtStep place.old place.new) }
+    ensures unread { IsErrOf result DeviceErr.Fault → place.new.ready ≡ false
+        → (F.state flash.old).faults + TRIES ≤ (F.state flash.new).faults }
     ensures next { OnOk result (place.new.next ≡ place.old.next) }
     ensures light { Tries 1 (F.state flash.old) (F.state flash.new) result }
     ensures work { Costs 2 2 (F.state flash.old) (F.state flash.new) }
@@ -161,16 +202,35 @@ fn pass_on<F: SectorFlash>(flash: &mut F, place: &mut PageMap<F::Table>) -> Resu
     ensures erases { (F.state flash.new).erases ≤ (F.state flash.old).erases + 1 }
 {
     place.ready = false;
-    pass_witness(flash)?;
+    match pass_witness(flash) {
+        Ok(()) => {}
+        Err(DeviceErr::PowerLost) => return Err(DeviceErr::PowerLost),
+        Err(DeviceErr::Fault) => {
+            let turn = area_again(flash, &mut place.table)?;
+            if turn == 1 {
+                place.ready = true;
+                return Err(DeviceErr::Fault);
+            }
+            begin_steps(place);
+            return Ok(());
+        }
+    }
+    begin_steps(place);
+    Ok(())
+}
+
+/// The witness has the turn, and no sector of the other area is erased.
+fn begin_steps<T: PageTable>(place: &mut PageMap<T>)
+    ensures { place.new ≡ record place.old { ready = true; turn = 2; erased = 0; copied = 0; older = 0 } }
+{
     place.turn = 2;
     place.erased = 0;
     place.copied = 0;
     place.older = 0;
     place.ready = true;
-    Ok(())
 }
 
-/// Erases the next of the last sectors of the other area.
+/// Erases the next of the last sectors of the other area. If that fails, the move has come as far as before.
 fn erase_next<F: SectorFlash>(flash: &mut F, place: &mut PageMap<F::Table>) -> Result<(), DeviceErr>
     requires lit { (F.state flash.old).dark ≡ false }
     requires log { IsSectorLog F.Table.entries F.PAGES F.SLOTS F.SECTORS F.sector_start (F.state flash.old).words
@@ -183,26 +243,25 @@ fn erase_next<F: SectorFlash>(flash: &mut F, place: &mut PageMap<F::Table>) -> R
         place.new }
     ensures step { OnOk result (HasTakenStep F.PAGES F.SLOTS F.SECTORS place.new) }
     ensures ends { OnOk result (EndsSectorStep F.PAGES F.SLOTS F.SECTORS place.old place.new) }
+    ensures stays { OnErr result (place.new ≡ place.old) }
     ensures next { OnOk result (place.new.next ≡ place.old.next) }
     ensures light { Tries 1 (F.state flash.old) (F.state flash.new) result }
     ensures work { Costs 1 2 (F.state flash.old) (F.state flash.new) }
     ensures most { (F.state flash.new).operations ≤ (F.state flash.old).operations + 1 }
     ensures erases { (F.state flash.new).erases ≤ (F.state flash.old).erases + 1 }
 {
-    place.ready = false;
     flash.erase(first_sector_of_spare::<F>(place.turn) + (copy_steps::<F>() + place.erased))?;
     place.erased += 1;
-    place.ready = true;
     Ok(())
 }
 
-/// Passes the turn to the other area, which has all pages.
+/// Passes the turn to the other area, which has all pages. If its mark failed, the turn is looked for.
 fn end_move<F: SectorFlash>(flash: &mut F, place: &mut PageMap<F::Table>) -> Result<(), DeviceErr>
     requires lit { (F.state flash.old).dark ≡ false }
-    requires turn { place.old.turn ≡ turn_of F.SLOTS (F.state flash.old).words }
-    requires moves { (place.old.turn < 3) × (place.old.turn ≢ 1) × IsRing F.SLOTS (F.state flash.old).words }
-    requires unready { place.old.ready ≡ false }
-    requires in_step { HasRoomForSteps F.PAGES F.SLOTS F.SECTORS F.sector_start (F.state flash.old).words 0 }
+    requires log { IsSectorLog F.Table.entries F.PAGES F.SLOTS F.SECTORS F.sector_start (F.state flash.old).words
+        place.old }
+    requires ready { place.old.ready ≡ true }
+    requires turn { place.old.turn ≢ 1 }
     requires pages { HasMovedSteps F.PAGES F.SLOTS F.SECTORS F.sector_start (F.state flash.old).words place.old.turn }
     ensures words { words_of F.PAGES F.SLOTS (F.state flash.new).words
         ≡ words_of F.PAGES F.SLOTS (F.state flash.old).words }
@@ -210,6 +269,9 @@ fn end_move<F: SectorFlash>(flash: &mut F, place: &mut PageMap<F::Table>) -> Res
         place.new }
     ensures step { OnOk result (HasTakenStep F.PAGES F.SLOTS F.SECTORS place.new) }
     ensures ends { OnOk result (place.new.next + sector_lead F.SECTORS < F.SLOTS) }
+    ensures stays { OnErr result (place.new.ready ≡ true → StaysAtStep place.old place.new) }
+    ensures unread { IsErrOf result DeviceErr.Fault → place.new.ready ≡ false
+        → (F.state flash.old).faults + TRIES ≤ (F.state flash.new).faults }
     ensures next { OnOk result (place.new.next
         ≡ spare_slot_of F.SLOTS F.SECTORS F.sector_start place.old.turn (steps_of F.PAGES)) }
     ensures light { Tries 1 (F.state flash.old) (F.state flash.new) result }
@@ -217,11 +279,52 @@ fn end_move<F: SectorFlash>(flash: &mut F, place: &mut PageMap<F::Table>) -> Res
     ensures most { (F.state flash.new).operations ≤ (F.state flash.old).operations + 1 }
     ensures erases { (F.state flash.new).erases ≡ (F.state flash.old).erases }
 {
-    place.behind = spare_slot::<F>(place.turn, copy_steps::<F>());
-    pass_turn(flash, place)
+    let was = (place.turn, place.next, place.older);
+    let taken = (place.erased, place.copied);
+    let behind = spare_slot::<F>(place.turn, copy_steps::<F>());
+    place.behind = behind;
+    place.ready = false;
+    match pass_turn(flash, place) {
+        Ok(()) => return Ok(()),
+        Err(DeviceErr::PowerLost) => return Err(DeviceErr::PowerLost),
+        Err(DeviceErr::Fault) => {}
+    }
+    let turn = area_again(flash, &mut place.table)?;
+    if turn == was.0 {
+        put_place(place, was.0, was.1, taken, was.2);
+        return Err(DeviceErr::Fault);
+    }
+    put_place(place, turn, behind, (0, 0), 0);
+    Ok(())
 }
 
-/// Fills the next sector of the other area with copies. Behind the last one it passes the turn.
+/// The place is known again: the turn, the first slot that is free, and how far the move has come.
+fn put_place<T: PageTable>(
+    place: &mut PageMap<T>,
+    turn: u8,
+    next: u16,
+    taken: (u16, u16),
+    older: u16,
+)
+    ensures { place.new ≡ record place.old {
+      ready = true;
+      turn = turn;
+      next = next;
+      erased = taken.0;
+      copied = taken.1;
+      older = older;
+    } }
+{
+    place.turn = turn;
+    place.next = next;
+    place.erased = taken.0;
+    place.copied = taken.1;
+    place.older = older;
+    place.ready = true;
+}
+
+/// Fills the next sector of the other area with copies. Behind the last one it passes the turn. If that fails, the move
+/// has come as far as before.
 fn fill_next<F: SectorFlash>(flash: &mut F, place: &mut PageMap<F::Table>) -> Result<(), DeviceErr>
     requires lit { (F.state flash.old).dark ≡ false }
     requires log { IsSectorLog F.Table.entries F.PAGES F.SLOTS F.SECTORS F.sector_start (F.state flash.old).words
@@ -235,6 +338,9 @@ fn fill_next<F: SectorFlash>(flash: &mut F, place: &mut PageMap<F::Table>) -> Re
         place.new }
     ensures step { OnOk result (HasTakenStep F.PAGES F.SLOTS F.SECTORS place.new) }
     ensures ends { OnOk result (EndsSectorStep F.PAGES F.SLOTS F.SECTORS place.old place.new) }
+    ensures stays { OnErr result (place.new.ready ≡ true → StaysAtStep place.old place.new) }
+    ensures unread { IsErrOf result DeviceErr.Fault → place.new.ready ≡ false
+        → (F.state flash.old).faults + TRIES ≤ (F.state flash.new).faults }
     // The next slot stays, or a move has ended, and all slots behind those of its steps are free.
     ensures next { OnOk result ((place.new.next ≡ place.old.next) ⊎ (place.new.next
         ≡ spare_slot_of F.SLOTS F.SECTORS F.sector_start place.old.turn (steps_of F.PAGES))) }
@@ -243,14 +349,12 @@ fn fill_next<F: SectorFlash>(flash: &mut F, place: &mut PageMap<F::Table>) -> Re
     ensures most { (F.state flash.new).operations ≤ (F.state flash.old).operations + 48 }
     ensures erases { (F.state flash.new).erases ≤ (F.state flash.old).erases + 1 }
 {
-    place.ready = false;
     fill_sector(flash, place.turn, &place.table, place.copied, place.older)?;
-    place.older = 0;
-    place.copied += 1;
-    if place.copied == copy_steps::<F>() {
+    if place.copied + 1 == copy_steps::<F>() {
         return end_move(flash, place);
     }
-    place.ready = true;
+    place.older = 0;
+    place.copied += 1;
     Ok(())
 }
 
@@ -269,6 +373,10 @@ pub fn take_step<F: SectorFlash>(
         place.new }
     ensures step { OnOk result (HasTakenStep F.PAGES F.SLOTS F.SECTORS place.new) }
     ensures ends { OnOk result (EndsSectorStep F.PAGES F.SLOTS F.SECTORS place.old place.new) }
+    ensures stays { OnErr result (place.new.ready ≡ true → StaysAtStep place.old place.new) }
+    // If it fails, and the pages are not known again, many more calls failed.
+    ensures unread { IsErrOf result DeviceErr.Fault → place.new.ready ≡ false
+        → (F.state flash.old).faults + TRIES ≤ (F.state flash.new).faults }
     ensures idle { place.old.next + sector_lead F.SECTORS < F.SLOTS
         → (place.new ≡ place.old) × (F.state flash.new ≡ F.state flash.old) }
     // The next slot stays, or a move has ended, and all slots behind those of its steps are free.
@@ -343,33 +451,6 @@ fn look<F: SectorFlash>(flash: &mut F, place: &mut PageMap<F::Table>) -> Result<
     find_pages(flash, place)
 }
 
-/// Reads the area in use again, behind a record that failed. A Fault of the flash is returned only if as many tries
-/// failed.
-fn scan_again<F: SectorFlash>(
-    flash: &mut F,
-    area: u8,
-    table: &mut F::Table,
-) -> Result<(), DeviceErr>
-    requires lit { (F.state flash.old).dark ≡ false }
-    requires area { area < 2 }
-    ensures index { OnOk result (IsPageTable F.PAGES (F.state flash.new).words (base_in F.SLOTS area) F.SLOTS
-        (F.Table.entries table.new)) }
-    ensures words { (F.state flash.new).words ≡ (F.state flash.old).words }
-    ensures work { (F.state flash.new).operations ≡ (F.state flash.old).operations }
-    ensures erases { (F.state flash.new).erases ≡ (F.state flash.old).erases }
-    ensures light { Tries TRIES (F.state flash.old) (F.state flash.new) result }
-{
-    for _ in 1..TRIES {
-        match scan(flash, area, table) {
-            Err(DeviceErr::Fault) => {}
-            Err(DeviceErr::PowerLost) => return Err(DeviceErr::PowerLost),
-            Ok(_) => return Ok(()),
-        }
-    }
-    scan(flash, area, table)?;
-    Ok(())
-}
-
 /// Returns true if a slot is free beside those of the steps that are left, and the place is known.
 fn has_slot<F: SectorFlash>(place: &PageMap<F::Table>) -> bool
     requires fits { place.now.ready ≡ true → (place.now.erased ≤ last_sectors F.PAGES F.SECTORS)
@@ -438,7 +519,7 @@ fn write_once<F: SectorFlash>(
         Ok(()) => {}
         Err(DeviceErr::PowerLost) => return Err(DeviceErr::PowerLost),
         Err(DeviceErr::Fault) => {
-            scan_again(flash, home(place.turn), &mut place.table)?;
+            area_again(flash, &mut place.table)?;
             place.next += 1;
             place.older = older;
             place.ready = true;
@@ -451,8 +532,70 @@ fn write_once<F: SectorFlash>(
     Ok(())
 }
 
+/// Finds the pages, and takes a step of the move, if one is due. A step that fails leaves the move as it was: then a
+/// record is put too, if a slot is free beside those of the steps, and no copy of another page may be older.
+fn make_ready<F: SectorFlash>(
+    flash: &mut F,
+    place: &mut PageMap<F::Table>,
+    page: u16,
+) -> Result<(), DeviceErr>
+    requires lit { (F.state flash.old).dark ≡ false }
+    requires log { IsSectorLog F.Table.entries F.PAGES F.SLOTS F.SECTORS F.sector_start (F.state flash.old).words
+        place.old }
+    requires page { page < F.PAGES }
+    ensures words { words_of F.PAGES F.SLOTS (F.state flash.new).words
+        ≡ words_of F.PAGES F.SLOTS (F.state flash.old).words }
+    ensures log { IsSectorLog F.Table.entries F.PAGES F.SLOTS F.SECTORS F.sector_start (F.state flash.new).words
+        place.new }
+    ensures takes { OnOk result (StaysInStep F.PAGES F.SLOTS F.SECTORS page place.new) }
+    // The slots for the record and its tries.
+    ensures beside { OnOk result (place.old.ready ≡ true → HasBeside F.PAGES F.SLOTS F.SECTORS
+        (F.state flash.old).faults (F.state flash.new).faults place.old place.new) }
+    ensures stays { OnErr result (place.old.ready ≡ true → place.new.ready ≡ true → StaysAtStep place.old place.new) }
+    // In a move too it fails only if more tries did than slots were free beside those of the steps, or eight; or if a
+    // step failed that has yet to copy another page again.
+    ensures keeps_trying { (k : ℕ) → 0 < free_slots F.SLOTS place.old
+        → known_sector_steps F.PAGES F.SECTORS place.old + k ≤ free_slots F.SLOTS place.old
+        → IsErrOf result DeviceErr.Fault
+        → GivesUpBehind page k (sector_log_value F.PAGES F.SLOTS F.SECTORS (F.state flash.old) place.old)
+        (sector_log_value F.PAGES F.SLOTS F.SECTORS (F.state flash.new) place.new) }
+    ensures idle { sector_lead F.SECTORS < free_slots F.SLOTS place.old
+        → (place.new ≡ place.old) × (F.state flash.new ≡ F.state flash.old) }
+    // If the flash doesn't fail, the next slot stays, or a move has ended.
+    ensures next { OnOk result ((F.state flash.new).faults ≡ (F.state flash.old).faults
+        → place.old.ready ≡ true → (place.new.next ≡ place.old.next) ⊎ (place.new.next
+        ≡ spare_slot_of F.SLOTS F.SECTORS F.sector_start place.old.turn (steps_of F.PAGES))) }
+    ensures light { Tries 1 (F.state flash.old) (F.state flash.new) result }
+    ensures work { Costs 36 2 (F.state flash.old) (F.state flash.new) }
+    ensures most { (F.state flash.new).operations ≤ (F.state flash.old).operations + 48 }
+    ensures erases { (F.state flash.new).erases ≤ (F.state flash.old).erases + 1 }
+{
+    look(flash, place)?;
+    match take_step(flash, place) {
+        Ok(()) => return Ok(()),
+        Err(DeviceErr::PowerLost) => return Err(DeviceErr::PowerLost),
+        Err(DeviceErr::Fault) => {}
+    }
+    if !may_put(place, page) {
+        return Err(DeviceErr::Fault);
+    }
+    if !has_slot::<F>(place) {
+        return Err(DeviceErr::Fault);
+    }
+    Ok(())
+}
+
+/// Returns true if no copy but that of a page may be older.
+fn may_put<T: PageTable>(place: &PageMap<T>, page: u16) -> bool
+    requires { page < 65535 }
+    ensures yes { result ≡ true → (place.now.older ≡ 0) ⊎ (place.now.older ≡ page + 1) }
+    ensures no { result ≡ false → (place.now.older ≢ 0) × (place.now.older ≢ page + 1) }
+{
+    place.older == 0 || place.older == page + 1
+}
+
 /// Writes a run of a page. At every exit all words of the run are old, or all are new. If a step of a move is due it is
-/// taken once, so at most one sector is erased. The tries behind a record that failed pass over its slot, as long as a
+/// tried once, so at most one sector is erased. The tries behind a record that failed pass over its slot, as long as a
 /// slot is free beside those of the steps.
 pub fn write_at<F: SectorFlash>(
     flash: &mut F,
@@ -497,13 +640,24 @@ pub fn write_at<F: SectorFlash>(
         → Tries TRIES (F.state flash.old) (F.state flash.new) result }
     ensures gives_up { IsErrOf result DeviceErr.Fault → sector_lead F.SECTORS < free_slots F.SLOTS place.old
         → free_slots F.SLOTS place.new + TRIES ≤ free_slots F.SLOTS place.old }
+    // In a move too it fails only if more tries did than slots were free beside those of the steps, or eight; or if a
+    // step failed that has yet to copy another page again.
+    ensures keeps_trying { (k : ℕ) → 0 < free_slots F.SLOTS place.old
+        → known_sector_steps F.PAGES F.SECTORS place.old + k ≤ free_slots F.SLOTS place.old
+        → IsErrOf result DeviceErr.Fault
+        → GivesUpBehind page k (sector_log_value F.PAGES F.SLOTS F.SECTORS (F.state flash.old) place.old)
+        (sector_log_value F.PAGES F.SLOTS F.SECTORS (F.state flash.new) place.new) }
+    // Behind it, no fewer slots are free beside those of the steps than before, or than eight, but for one for each
+    // Fault.
+    ensures beside { 0 < free_slots F.SLOTS place.old → 0 < free_slots F.SLOTS place.new → KeepsBeside
+        (sector_log_value F.PAGES F.SLOTS F.SECTORS (F.state flash.old) place.old)
+        (sector_log_value F.PAGES F.SLOTS F.SECTORS (F.state flash.new) place.new) }
     ensures work { Costs 38 2 (F.state flash.old) (F.state flash.new) }
     // However often the flash fails and power was lost before.
     ensures most { (F.state flash.new).operations ≤ (F.state flash.old).operations + 64 }
     ensures erases { (F.state flash.new).erases ≤ (F.state flash.old).erases + 1 }
 {
-    look(flash, place)?;
-    take_step(flash, place)?;
+    make_ready(flash, place, page)?;
     for _ in 1..TRIES {
         match write_once(flash, place, page, first, words) {
             Ok(()) => return Ok(()),

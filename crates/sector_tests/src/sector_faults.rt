@@ -202,7 +202,8 @@ fn fail_slots(
     requires { (80 ≤ sector) × (sector < 160) }
 {
     let flash = play_next(flash, book, 0, in_first_slots(sector, 8))?;
-    if book.last.is_done || book.counts.faults < 7 || flash.erased() != sector {
+    // The record may be put all the same, if no copy of another page may be older.
+    if book.counts.faults < 7 || flash.erased() != sector {
         return Err(Fail::from("a step takes more slots"));
     }
     let flash = play_next(flash, book, 0, in_first_slots(sector, 6))?;
@@ -234,8 +235,8 @@ fn a_step_passes_over_six_slots_that_fail(rt: HostRuntime) -> Result<(), Fail> {
     Ok(())
 }
 
-/// Plays a session in which the erase of a step fails, if one is due: nothing else is begun, and a Fault is returned.
-/// The next session takes that step again. Returns whether it was due.
+/// Plays a session in which the erase of a step fails, if one is due: nothing else is begun but the two programs of the
+/// record, or a Fault is returned. The next session takes that step again. Returns whether it was due.
 fn fail_erase(
     flash: SmallSectorFlash,
     book: &mut Book,
@@ -246,7 +247,8 @@ fn fail_erase(
     if book.counts.faults == 0 {
         return Ok((flash, false));
     }
-    if book.last.is_done || book.counts.operations != 1 || book.counts.erases != 1 {
+    let begun = if book.last.is_done { 3 } else { 1 };
+    if book.counts.operations != begun || book.counts.erases != 1 {
         return Err(Fail::from("more was begun than the erase that failed"));
     }
     let sector = flash.erased();
@@ -272,7 +274,8 @@ fn an_erase_that_fails_is_done_by_the_next_write(rt: HostRuntime) -> Result<(), 
         steps = steps.saturating_add(u32::from(is_step));
     }
     check_words(flash, &mut book)?;
-    assert!(rt; book.moves == 2 && book.failures == steps);
+    // The record is put beside most steps that failed.
+    assert!(rt; book.moves == 2 && book.failures < steps);
     assert!(rt; 2 * COPIES <= steps && steps <= 2 * LEAD);
     Ok(())
 }

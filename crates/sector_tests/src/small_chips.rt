@@ -210,7 +210,8 @@ fn fail_at_last(
     Err(Fail::from("a worn sector is erased"))
 }
 
-/// Wears out a sector of each area, and then two more.
+/// Wears out a sector of each area, and then two more. Those are of steps that copy: they are erased in each move, also
+/// where they read blank.
 fn wear_four(alloc: Global, n: u16) -> Result<(), Fail>
     requires { n < 8 }
 {
@@ -219,7 +220,7 @@ fn wear_four(alloc: Global, n: u16) -> Result<(), Fail>
     let flash = written(SpareFlash::new(device), &mut words)?;
     let (flash, next) = wear_out(flash, &mut words, FIRST, 80 + 10 * n)?;
     let (flash, next) = wear_out(flash, &mut words, next, 79 - 10 * n)?;
-    let flash = worn(worn(flash, 64, 0), 144, 0);
+    let flash = worn(worn(flash, 5, 0), 85, 0);
     let (flash, next) = fail_at_last(flash, &mut words, next)?;
     let mut board = powered(flash)?;
     settle(&mut board, &mut words, next)?;

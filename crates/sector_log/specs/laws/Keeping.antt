@@ -27,7 +27,8 @@ use Rattle.flash_moves.specs.Places.{IsPlaceOf}
 use Rattle.flash_moves.specs.Rings.{IsRing, SameMarks}
 use Rattle.flash_moves.specs.laws.Moving.{Stays}
 use Rattle.flash_moves.specs.laws.Sparing.{SameBlock, block_area, home_leaves, index_same, pass_block}
-use Rattle.flash_moves.specs.laws.Sparing.{pass_home, pass_turns, pass_words, spare_leaves, spare_stays}
+use Rattle.flash_moves.specs.laws.Sparing.{pass_home, pass_ring, pass_turns, pass_words, spare_leaves}
+use Rattle.flash_moves.specs.laws.Sparing.{spare_stays}
 use Rattle.flash_moves.specs.laws.Turns.{ring_same, turn_same}
 use Rattle.sector_log.specs.laws.Sizing.{sector_high, sector_low}
 use Rattle.sector_log.specs.laws.Stepping.{none_begun, sector_steps_most}
@@ -40,16 +41,14 @@ use Rattle.sector_log.specs.SectorSpares.{spare_slots}
 pub record LeavesSector {T : Type 0} (entries : T → List ℕ) (pages slots sectors : ℕ) (start : ℕ → ℕ) (m : List ℕ)
     (p : PageMap T) (n : ℕ) (after : List ℕ) : Type 0 where
   pub stays : Stays pages slots m after
-  pub in_step : (tried : ℕ) → tried ≤ p.next → HasRoomForSteps pages slots sectors start after tried
-  pub failed : IsSectorLog entries pages slots sectors start after (record p { ready = false })
+  pub failed : IsSectorLog entries pages slots sectors start after p
   pub erased : n ≡ steps_of pages + p.erased → p.erased < last_sectors pages sectors
       → AreFilled after (start (spare_sector sectors p.turn + n))
       (start (spare_sector sectors p.turn + (n + 1)) - start (spare_sector sectors p.turn + n)) BLANK
-      → IsSectorLog entries pages slots sectors start after (record p { ready = true; erased = p.erased + 1 })
+      → IsSectorLog entries pages slots sectors start after (record p { erased = p.erased + 1 })
   pub copied : p.erased ≡ last_sectors pages sectors → p.copied + 1 < steps_of pages
       → slots ≤ p.next + sector_lead sectors → HasStepCopies pages slots sectors start after p.turn (p.copied + 1) 0
-      → IsSectorLog entries pages slots sectors start after
-      (record p { ready = true; copied = p.copied + 1; older = 0 })
+      → IsSectorLog entries pages slots sectors start after (record p { copied = p.copied + 1; older = 0 })
   pub moved : p.erased ≡ last_sectors pages sectors → p.copied + 1 ≡ steps_of pages
       → HasStepCopies pages slots sectors start after p.turn (p.copied + 1) 0
       → HasMovedSteps pages slots sectors start after p.turn
@@ -194,25 +193,22 @@ module _ (pages slots sectors : ℕ) (start : ℕ → ℕ) where
           (spare_slots slots sectors start p.turn p.copied) (STEP_PAGES * p.copied) p.older copied_area
           (λ q none. sym (area_found slots m after (base_in slots p.turn) area q) ∙ none) spare.copies)
 
-      in_step : (tried : ℕ) → tried ≤ p.next → HasRoomForSteps pages slots sectors start after tried
-      in_step tried passed = in_step_from after tried p.turn p.erased p.copied p.older p.next
-          (at.place.turn ∙ sym (stays.turn))
-          (record {
-            within = spare.within;
-            most = spare.most;
-            idle = spare.idle;
-            fresh = spare.fresh;
-            few = spare.few;
-            blank = blank;
-            copies = copies;
-          })
-          (area_free slots m after (base_in slots p.turn) area p.next at.place.free) at.room passed
+      unmoved : IsSectorSpare pages slots sectors start after p.turn p.erased p.copied p.older
+      unmoved = record {
+        within = spare.within;
+        most = spare.most;
+        idle = spare.idle;
+        fresh = spare.fresh;
+        few = spare.few;
+        blank = blank;
+        copies = copies;
+      }
 
       placed : (erased copied older : ℕ) → IsSectorSpare pages slots sectors start after p.turn erased copied older
           → (0 < copied → slots ≤ p.next + sector_lead sectors)
           → sector_steps pages sectors p.turn erased copied + p.next ≤ slots
           → IsSectorLog entries pages slots sectors start after
-          (record p { ready = true; erased = erased; copied = copied; older = older })
+          (record p { erased = erased; copied = copied; older = older })
       placed erased copied older new goes_on room = record {
         ring = stays.ring;
         known = λ e. record {
@@ -227,7 +223,7 @@ module _ (pages slots sectors : ℕ) (start : ℕ → ℕ) where
           room = room;
           passed = at.passed;
         };
-        found = λ e. absurd (true≢false e);
+        found = λ e. absurd (true≢false (sym ready ∙ e));
       }
 
       one_erased : n ≡ steps_of pages + p.erased → p.erased < last_sectors pages sectors
@@ -277,11 +273,21 @@ module _ (pages slots sectors : ℕ) (start : ℕ → ℕ) where
       pub sector_stays : LeavesSector entries pages slots sectors start m p n after
       sector_stays = record {
         stays = stays;
-        in_step = in_step;
         failed = record {
           ring = stays.ring;
-          known = λ e. absurd (true≢false (sym e));
-          found = λ e. in_step p.tried at.passed;
+          known = λ e. record {
+            place = record {
+              turn = at.place.turn ∙ sym (stays.turn);
+              small = at.place.small;
+              index = index_same slots pages m after (entries p.table) (base_in slots p.turn) area at.place.index;
+              free = area_free slots m after (base_in slots p.turn) area p.next at.place.free;
+              spare = unmoved;
+              goes_on = at.place.goes_on;
+            };
+            room = at.room;
+            passed = at.passed;
+          };
+          found = λ e. absurd (true≢false (sym ready ∙ e));
         };
         erased = λ e lt done. let room = at.room in
             placed (p.erased + 1) p.copied p.older (one_erased e lt done) at.place.goes_on (omega (arith, room, lt));
@@ -516,19 +522,43 @@ module _ (pages slots sectors : ℕ) (start : ℕ → ℕ) where
         abbrev behind : ℕ
         behind = spare_slot slots sectors start turn (steps_of pages)
 
-        old_in_step : HasRoomForSteps pages slots sectors start m 0 → turn_of slots after ≡ turn
-            → HasRoomForSteps pages slots sectors start after 0
-        old_in_step was e =
+        -- where the turn stays, the move has come as far, and as many slots are free
+        pub pass_spare : (erased copied older : ℕ)
+            → IsSectorSpare pages slots sectors start m turn erased copied older
+            → IsSectorSpare pages slots sectors start after turn erased copied older
+        pass_spare erased copied older spare =
             let home = pass_home pages slots m after turn behind ring is small other moved_copies h in
             let block = pass_block pages slots m after turn behind ring is small other moved_copies h in
             let words = pass_words pages slots m after turn behind ring is small other moved_copies h in
-            in_step_from after 0 turn was.erased was.copied was.older was.next (sym e)
-            (block_stays left m after turn was.erased was.copied was.older
+            block_stays left m after turn erased copied older spare block
+            (λ p none. sym (area_found slots m after (base_in slots turn) home p) ∙ none) words
+
+        pub pass_free : (next : ℕ) → AreFree m (base_in slots turn) next slots
+            → AreFree after (base_in slots turn) next slots
+        pass_free next free = area_free slots m after (base_in slots turn)
+            (pass_home pages slots m after turn behind ring is small other moved_copies h) next free
+
+        -- the other area is free behind the slots of the steps
+        pub pass_moved : AreFree after (spare_in slots turn) behind slots
+        pass_moved = area_free slots m after (spare_in slots turn)
+            (block_area slots m after (spare_in slots turn)
+            (pass_block pages slots m after turn behind ring is small other moved_copies h)) behind moved_free
+
+        pub pass_has_ring : IsRing slots after
+        pass_has_ring = pass_ring pages slots m after turn behind ring is small other moved_copies h
+
+        -- a turn that does not stay is that of the other area
+        pub pass_other : turn_of slots after ≢ turn → base_in slots (turn_of slots after) ≡ spare_in slots turn
+        pass_other differs = ⊎_elim (λ (same : turn_of slots after ≡ turn). absurd (differs same)) (λ e. e)
+            (pass_turns pages slots m after turn behind ring is small other moved_copies h)
+
+        old_in_step : HasRoomForSteps pages slots sectors start m 0 → turn_of slots after ≡ turn
+            → HasRoomForSteps pages slots sectors start after 0
+        old_in_step was e = in_step_from after 0 turn was.erased was.copied was.older was.next (sym e)
+            (pass_spare was.erased was.copied was.older
             (subst (λ (t : ℕ). IsSectorSpare pages slots sectors start m t was.erased was.copied was.older) (sym is)
-            was.spare)
-            block (λ p none. sym (area_found slots m after (base_in slots turn) home p) ∙ none) words)
-            (area_free slots m after (base_in slots turn) home was.next
-            (subst (λ (t : ℕ). AreFree m (base_in slots t) was.next slots) (sym is) was.free))
+            was.spare))
+            (pass_free was.next (subst (λ (t : ℕ). AreFree m (base_in slots t) was.next slots) (sym is) was.free))
             (subst (λ (t : ℕ). sector_steps pages sectors t was.erased was.copied + was.next ≤ slots) (sym is)
             was.room)
             (omega arith)
@@ -536,13 +566,10 @@ module _ (pages slots sectors : ℕ) (start : ℕ → ℕ) where
         new_in_step : LEAST_PAGES ≤ pages → base_in slots (turn_of slots after) ≡ spare_in slots turn
             → HasRoomForSteps pages slots sectors start after 0
         new_in_step least e =
-            let block = pass_block pages slots m after turn behind ring is small other moved_copies h in
             let most = sector_steps_most pages sectors (turn_of slots after) 0 0 left in
             in_step_from after 0 (turn_of slots after) 0 0 0 behind refl
             (none_begun pages slots sectors start first second third least after (turn_of slots after))
-            (subst (λ (b : ℕ). AreFree after b behind slots) (sym e)
-            (area_free slots m after (spare_in slots turn)
-            (block_area slots m after (spare_in slots turn) block) behind moved_free))
+            (subst (λ (b : ℕ). AreFree after b behind slots) (sym e) pass_moved)
             (omega (arith, most, room)) (omega arith)
 
         -- at every exit the area in use has a free slot for each step that is left
@@ -583,14 +610,3 @@ module _ (pages slots sectors : ℕ) (start : ℕ → ℕ) where
 
         pub moved_step : HasTakenStep pages slots sectors p
         moved_step = record { ready = fresh.ready; older = none; room = moved_room }
-
--- what follows where a call returns, by two clauses, and where it fails
-pub by_both : {R A B C D : Type 0} (r : Result R DeviceErr) → OnOk r A → OnOk r B → OnErr r D → (A → B → C)
-    → (D → C) → C
-by_both (Ok x) one two err f g = f one two
-by_both (Err e) one two err f g = g err
-
--- where a call returns
-pub ok_both : {R A B C : Type 0} (r : Result R DeviceErr) → OnOk r A → OnOk r B → (A → B → C) → OnOk r C
-ok_both (Ok x) one two f = f one two
-ok_both (Err e) one two f = tt

@@ -1,4 +1,4 @@
-use Rattle.std.proofs.Common.{◌≡◌, ◌<◌, ◌+◌, sym, inl, ◌∙◌, arith}
+use Rattle.std.proofs.Common.{◌≡◌, ◌<◌, ◌+◌, inl, ◌∙◌, arith}
 use Rattle.flash_device.specs.FlashBlocks.{steps_of}
 use Rattle.sector_log.specs.laws.Keeping.{LeavesSector, sector_stays}
 use Rattle.sector_log.proofs.steps.fill_next.Given.{Over}
@@ -26,19 +26,8 @@ pub returns-in_err-fill_sector-clause-log : goal.returns-in_err-fill_sector-clau
 returns-in_err-fill_sector-clause-log g c =
     (leaves g (goal.at.returns-in_err-fill_sector-clause-log g c).After-fill_sector).failed
 
-pub end_move-requires-clause-turn : goal.end_move-requires-clause-turn
-end_move-requires-clause-turn g c =
-    let kept = (leaves g (goal.at.end_move-requires-clause-turn g c).After-fill_sector).stays in
-    (c.requires.log.known c.requires.ready).place.turn ∙ sym kept.turn
-
-pub end_move-requires-clause-moves : goal.end_move-requires-clause-moves
-end_move-requires-clause-moves g c =
-    let kept = (leaves g (goal.at.end_move-requires-clause-moves g c).After-fill_sector).stays in
-    ((c.requires.log.known c.requires.ready).place.small, c.requires.moves.0, kept.ring)
-
-pub end_move-requires-clause-in_step : goal.end_move-requires-clause-in_step
-end_move-requires-clause-in_step g c =
-    (leaves g (goal.at.end_move-requires-clause-in_step g c).After-fill_sector).in_step 0 (omega arith)
+pub end_move-requires-clause-log : goal.end_move-requires-clause-log
+end_move-requires-clause-log g c = (leaves g (goal.at.end_move-requires-clause-log g c).After-fill_sector).failed
 
 pub end_move-requires-clause-pages : goal.end_move-requires-clause-pages
 end_move-requires-clause-pages g c =

@@ -1,11 +1,12 @@
-use Rattle.std.proofs.Common.{◌≡◌, ◌≤◌, ◌+◌, ◌*◌, length, Err, ap, subst, ◌∙◌, arith}
+use Rattle.std.proofs.Common.{◌≡◌, ◌≤◌, ◌+◌, ◌*◌, length, Err, ap, inl, subst, ◌∙◌, arith}
 use Rattle.std.proofs.lemmas.Result.{on_ok_weaker}
 use Rattle.nvm_board.specs.declared.board.DeviceErr.{DeviceErr}
 use Rattle.flash_device.specs.FlashCalls.{Tries}
 use Rattle.flash_device.specs.FlashLogs.{words_of}
 use Rattle.flash_area.specs.laws.Words.{length-words}
 use Rattle.flash_moves.specs.laws.Writing.{done_again, whole_again}
-use Rattle.sector_log.specs.laws.Trying.{by_bool, free_unknown, tries_after, tries_fit, tries_most}
+use Rattle.sector_log.specs.laws.Trying.{beside_again, beside_put, beside_spent, by_bool, fault_handed}
+use Rattle.sector_log.specs.laws.Trying.{free_known, free_unknown, tries_after, tries_faults, tries_fit, tries_most}
 use Rattle.sector_log.proofs.steps.write_at.Goals as goal
 
 pub returns-in-Ok-clause-whole : goal.returns-in-Ok-clause-whole
@@ -102,6 +103,49 @@ returns-then-not-has_slot-clause-gives_up g c = λ e calm.
     c.loop-test.true (omega (arith, moved, next)) (c.has_slot.ensures.no c.if-not-has_slot.true ready)))
     (λ unready. let none = free_unknown slots q unready in omega (arith, none, calm))
 
+pub returns-in_err-make_ready-clause-keeps_trying : goal.returns-in_err-make_ready-clause-keeps_trying
+returns-in_err-make_ready-clause-keeps_trying g c = λ k some room fault.
+    c.in_err-make_ready.ensures.keeps_trying k some room (fault_handed _ _ c.from_residual.ensures.1 fault)
+
+pub returns-then-not-has_slot-clause-keeps_trying : goal.returns-then-not-has_slot-clause-keeps_trying
+returns-then-not-has_slot-clause-keeps_trying g c = λ k some room e.
+    let pages = g.F.Flash.PAGES in
+    let slots = g.F.Flash.SLOTS in
+    let sectors = g.F.Flash.SECTORS in
+    let old = g.F.Flash.state c.args.flash.now in
+    let mid = g.F.Flash.state c.loop.flash in
+    let new = g.F.Flash.state c.write_once.new.flash in
+    let place = c.args.place.now in
+    let q = c.write_once.new.place in
+    by_bool q.ready
+    (λ ready.
+    let moved = c.write_once.ensures.next ready in
+    let known = (free_known slots place some).0 in
+    let more = (c.in-Err-Fault.ensures.light.fault (ap Err c.in-Err-Fault.field-0-is)).1 in
+    beside_spent pages slots sectors place q old.faults new.faults k
+    (beside_again pages slots sectors place c.loop.place old.faults mid.faults new.faults q
+    (c.loop.invariant.beside known) moved.0 moved.2 more)
+    (c.has_slot.ensures.no c.if-not-has_slot.true ready) some room)
+    (λ unready.
+    let steady = c.loop.invariant.steady.faults in
+    let unread = c.in-Err-Fault.ensures.unread (ap Err c.in-Err-Fault.field-0-is) unready in
+    let many : old.faults + 8 ≤ new.faults = omega (arith, unread, steady) in
+    inl many)
+
+pub returns-then-not-has_slot-clause-beside : goal.returns-then-not-has_slot-clause-beside
+returns-then-not-has_slot-clause-beside g c = λ some left.
+    let slots = g.F.Flash.SLOTS in
+    let old = g.F.Flash.state c.args.flash.now in
+    let mid = g.F.Flash.state c.loop.flash in
+    let new = g.F.Flash.state c.write_once.new.flash in
+    let place = c.args.place.now in
+    let known = (free_known slots place some).0 in
+    let failed = (c.in-Err-Fault.ensures.light.fault (ap Err c.in-Err-Fault.field-0-is)).1 in
+    let more : mid.faults ≤ new.faults = omega (arith, failed) in
+    beside_put g.F.Flash.PAGES slots g.F.Flash.SECTORS place c.loop.place old new mid.faults c.write_once.new.place
+    (c.loop.invariant.beside known)
+    (λ ready. let moved = c.write_once.ensures.next ready in (moved.0, moved.2)) more some left
+
 pub loop-preserved : goal.loop-preserved
 loop-preserved g c =
     let slots = g.F.Flash.SLOTS in
@@ -138,6 +182,9 @@ loop-preserved g c =
       erases = omega (arith, erased, erases);
       log = c.write_once.ensures.log;
       takes = record { ready = slot.0; room = slot.1; older = moved.3 };
+      beside = λ ready. beside_again pages slots g.F.Flash.SECTORS c.args.place.now c.loop.place
+          (g.F.Flash.state c.args.flash.now).faults (g.F.Flash.state c.loop.flash).faults
+          (g.F.Flash.state c.write_once.new.flash).faults c.write_once.new.place (was.beside ready) next moved.2 more;
       calm = λ calm.
           let z = was.calm calm in
           let there = z.0 in
@@ -177,3 +224,16 @@ returns-clause-light g c =
     tries_after 1 (g.F.Flash.state c.args.flash.now) (g.F.Flash.state c.loop.flash)
     (g.F.Flash.state c.write_once-2.new.flash) c.write_once-2.result c.loop.invariant.steady
     c.write_once-2.ensures.light
+
+pub returns-clause-beside : goal.returns-clause-beside
+returns-clause-beside g c = λ some left.
+    let slots = g.F.Flash.SLOTS in
+    let old = g.F.Flash.state c.args.flash.now in
+    let mid = g.F.Flash.state c.loop.flash in
+    let new = g.F.Flash.state c.write_once-2.new.flash in
+    let place = c.args.place.now in
+    let known = (free_known slots place some).0 in
+    let more = tries_faults 1 mid new c.write_once-2.result c.write_once-2.ensures.light in
+    beside_put g.F.Flash.PAGES slots g.F.Flash.SECTORS place c.loop.place old new mid.faults
+    c.write_once-2.new.place (c.loop.invariant.beside known)
+    (λ ready. let moved = c.write_once-2.ensures.next ready in (moved.0, moved.2)) more some left

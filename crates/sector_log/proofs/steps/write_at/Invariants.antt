@@ -1,10 +1,10 @@
-use Rattle.std.proofs.Common.{◌≡◌, ◌⊎◌, ◌<◌, ◌≤◌, ◌+◌, ◌*◌, false}
+use Rattle.std.proofs.Common.{◌≡◌, ◌⊎◌, ◌<◌, ◌≤◌, ◌+◌, ◌*◌, true, false}
 use Rattle.nvm_board.specs.History.{written}
 use Rattle.flash_device.specs.FlashBlocks.{steps_of}
 use Rattle.flash_device.specs.FlashCalls.{KeepsPower}
 use Rattle.flash_device.specs.FlashLogs.{words_of}
 use Rattle.flash_moves.specs.Paces.{free_slots}
-use Rattle.sector_log.specs.SectorPlaces.{IsSectorLog, StaysInStep}
+use Rattle.sector_log.specs.SectorPlaces.{HasBeside, IsSectorLog, StaysInStep}
 use Rattle.sector_log.specs.SectorSpares.{sector_lead, spare_slot}
 use Rattle.sector_log.proofs.steps.write_at.Given as goal
 
@@ -24,6 +24,7 @@ invariant-loop g l =
       erases : new.erases ≤ old.erases + 1;
       log : IsSectorLog g.F.Table.PageTable.entries pages slots sectors start new.words l.place;
       takes : StaysInStep pages slots sectors l.page l.place;
+      beside : l.fn.place.ready ≡ true → HasBeside pages slots sectors old.faults new.faults l.fn.place l.place;
       calm : sector_lead sectors < free_slots slots l.fn.place → (l.place.next + 1 ≡ l.fn.place.next + l.counter)
           × (new.operations + 2 ≤ old.operations + 2 * l.counter) × (new.erases ≡ old.erases);
       next : new.faults ≡ old.faults → 0 < free_slots slots l.fn.place → (l.place.next ≡ l.fn.place.next)

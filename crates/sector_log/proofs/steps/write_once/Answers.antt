@@ -80,15 +80,15 @@ returns-in-Err-PowerLost-clause-log g c =
     let at = (goal.at.returns-in-Err-PowerLost-clause-log g c).After-write_run-ended in
     unknown g at c.write_run-ended.new.table
 
-pub returns-in_err-scan_again-in-Err-Fault-clause-log : goal.returns-in_err-scan_again-in-Err-Fault-clause-log
-returns-in_err-scan_again-in-Err-Fault-clause-log g c =
-    let at = (goal.at.returns-in_err-scan_again-in-Err-Fault-clause-log g c).After-write_run-ended in
+pub returns-in_err-area_again-in-Err-Fault-clause-log : goal.returns-in_err-area_again-in-Err-Fault-clause-log
+returns-in_err-area_again-in-Err-Fault-clause-log g c =
+    let at = (goal.at.returns-in_err-area_again-in-Err-Fault-clause-log g c).After-write_run-ended in
     subst (λ (l : List ℕ). IsSectorLog g.F.Table.PageTable.entries g.F.Flash.PAGES g.F.Flash.SLOTS g.F.Flash.SECTORS
     g.F.Flash.sector_start l (record c.args.place.now {
       ready = false;
-      table = c.scan_again.new.table;
+      table = c.area_again.new.table;
       tried = c.args.place.now.next + 1;
-    })) (sym c.scan_again.ensures.words) (unknown g at c.scan_again.new.table)
+    })) (sym c.area_again.ensures.words) (unknown g at c.area_again.new.table)
 
 pub returns-in-Err-Fault-clause-log : goal.returns-in-Err-Fault-clause-log
 returns-in-Err-Fault-clause-log g c =
@@ -96,7 +96,7 @@ returns-in-Err-Fault-clause-log g c =
     let slots = g.F.Flash.SLOTS in
     let pages = g.F.Flash.PAGES in
     let entries = g.F.Table.PageTable.entries in
-    let table = c.scan_again.new.table in
+    let table = c.area_again.new.table in
     subst (λ (l : List ℕ). IsSectorLog entries pages slots g.F.Flash.SECTORS g.F.Flash.sector_start l
     (record c.args.place.now {
       ready = true;
@@ -104,11 +104,15 @@ returns-in-Err-Fault-clause-log g c =
       next = c.args.place.now.next + 1;
       tried = c.args.place.now.next + 1;
       older = c.older_page-older.result;
-    })) (sym c.scan_again.ensures.words)
+    })) (sym c.area_again.ensures.words)
     (known g at table
-    (subst (λ (l : List ℕ). IsPageTable pages l (base g at) slots (entries table)) c.scan_again.ensures.words
-    (subst (λ (b : ℕ). IsPageTable pages (g.F.Flash.state c.scan_again.new.flash).words b slots (entries table))
-    (c.home-in-Err-Fault.ensures.is slots) c.in_ok-scan_again-in-Err-Fault.ensures.index)))
+    (subst (λ (l : List ℕ). IsPageTable pages l (base g at) slots (entries table)) c.area_again.ensures.words
+    (subst (λ (b : ℕ). IsPageTable pages (g.F.Flash.state c.area_again.new.flash).words b slots (entries table))
+    (ap (base_in slots) (c.in_ok-area_again-in-Err-Fault.ensures.turn.0
+    ∙ ap (turn_of slots) c.area_again.ensures.words
+    ∙ turn_same slots (before g at) (after g at) c.write_run-ended.ensures.marks
+    ∙ sym (c.requires.log.known c.requires.takes.ready).place.turn))
+    c.in_ok-area_again-in-Err-Fault.ensures.index)))
 
 pub returns-clause-log : goal.returns-clause-log
 returns-clause-log g c =

@@ -1,6 +1,8 @@
+use Rattle.std.specs.Prelude.{IsErrOf}
 use Rattle.std.proofs.Common.{refl, rules}
 use Rattle.nvm_board.specs.Facts.{address, IsLostRightly}
 use Rattle.nvm_board.specs.laws.Torn.{Torn-none}
+use Rattle.nvm_board.specs.declared.board.DeviceErr.TheVariants.{Fault}
 use Rattle.flash_board.specs.laws.Boards.{whole_torn}
 use Rattle.sector_board.proofs.sector_board.SectorBoardBoard.write.Goals as goal
 
@@ -105,3 +107,8 @@ returns-else-self-3-clause-writes g c = record {
   compares = search rules;
   matches = search rules;
 }
+
+pub returns-else-self-3-clause-keeps_trying : goal.returns-else-self-3-clause-keeps_trying
+returns-else-self-3-clause-keeps_trying g c = λ k failed some room.
+    let is : IsErrOf c.write-ended.result Fault = search rules in
+    c.write-ended.ensures.keeps_trying k some room is

@@ -1,6 +1,6 @@
 use Rattle.std.proofs.Common.{◌≡◌, ◌≤◌, ◌+◌, false}
 use Rattle.flash_device.specs.FlashCalls.{KeepsPower}
-use Rattle.sector_log.proofs.steps.scan_again.Given as goal
+use Rattle.sector_log.proofs.steps.area_again.Given as goal
 
 abbrev pub invariant-loop : goal.invariant-loop
 invariant-loop g l = let old = g.F.Flash.state l.initial.flash in let new = g.F.Flash.state l.flash in record {
