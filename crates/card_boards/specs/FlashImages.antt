@@ -7,7 +7,7 @@ use Rattle.flash_device.specs.FlashBlocks.{area_size, flash_size}
 use Rattle.flash_device.specs.FlashCalls.{FlashState}
 use Rattle.flash_device.specs.FlashLogs.{words_of}
 use Rattle.flash_moves.specs.Rings.{IsRing}
-use Rattle.sector_log.specs.SectorSpares.{HasRoomForSteps}
+use Rattle.sector_moves.specs.SectorSpares.{HasRoomForSteps}
 use Rattle.simulated_flashes.specs.EvenSectors.{even_sector}
 use Rattle.simulated_flashes.specs.declared.garbling_flash.TheConstants.{FLASH_PAGES}
 use Rattle.card_boards.specs.declared.flash_image.NoFlashCard.{NoFlashCard}

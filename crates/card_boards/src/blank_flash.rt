@@ -4,7 +4,7 @@ ghost use Rattle.nvm_board.specs.Facts.{new_board};
 ghost use Rattle.nvm_board.specs.declared.board.TheConstants.{LEAST_PAGES};
 ghost use Rattle.flash_device.specs.FlashBlocks.{area_size};
 ghost use Rattle.flash_moves.specs.Rings.{IsRing};
-ghost use Rattle.sector_log.specs.SectorSpares.{HasRoomForSteps};
+ghost use Rattle.sector_moves.specs.SectorSpares.{HasRoomForSteps};
 ghost use Rattle.simulated_flashes.specs.EvenSectors.{even_sector};
 ghost use Rattle.simulated_flashes.specs.GarblingStates.{garbling_state};
 ghost use Rattle.simulated_flashes.specs.declared.garbling_flash.TheConstants.{FLASH_PAGES};

@@ -1,13 +1,14 @@
 //! Turns of the card on a flash with small sectors.
 ghost use Rattle.std.specs.Prelude.{◌≡◌, false, length, IfOk, IfErr, OnErr};
 ghost use Rattle.card_turns.specs.FlashRuns.{PlaysOnFlash};
-ghost use Rattle.sector_log.specs.SectorPlaces.{SectorOpenStopsBy};
+ghost use Rattle.sector_log.specs.SectorOpenings.{SectorOpenStopsBy};
 
 use crate::playing::Bench;
 use bench_turns::{Item, Turn};
 use flash_device::FlashSocket;
 use sector_board::SectorBoard;
-use sector_log::{SectorFault, SectorFlash, SectorLog};
+use sector_log::{SectorFault, SectorLog};
+use sector_moves::SectorFlash;
 
 /// Plays turns in order with the card on a flash with small sectors, and returns the flash. Item i of the trace becomes
 /// the result of turn i. However often power was lost, no write of the card's board is long: `SectorBoard::write` says

@@ -3,7 +3,7 @@ ghost use Rattle.std.specs.Prelude.{◌<◌, ◌≤◌, ◌+◌, ◌-◌, ℕ};
 ghost use Rattle.flash_device.specs.FlashBlocks.{steps_of};
 ghost use Rattle.flash_device.specs.declared.layout.TheConstants.{SPARES, STEP_PAGES};
 ghost use Rattle.flash_area.specs.Spares.{spare_sector};
-ghost use Rattle.sector_log.specs.SectorSpares.{sector_lead};
+ghost use Rattle.sector_moves.specs.SectorSpares.{sector_lead};
 
 use crate::unit_device::UnitDevice;
 

@@ -8,7 +8,7 @@ use crate::unit_device::{UnitDevice, UnitSocket};
 use crate::unit_frames::start_of;
 use flash_device::{Flash, FlashSocket};
 use nvm_board::DeviceErr;
-use sector_log::SectorFlash;
+use sector_moves::SectorFlash;
 
 /// A flash over a device with program units. A record has units of its own, and so has each mark.
 #[derive(Drop)]
@@ -111,7 +111,7 @@ impl<D: UnitSocket> FlashSocket for UnitFlash<D> {
 
 impl<D: SmallUnitDevice> SectorFlash for UnitFlash<D> {
     ghost use Rattle.flash_device.specs.declared.layout.TheConstants.{STEP_PAGES};
-    ghost use Rattle.sector_log.specs.SectorSpares.{sector_lead};
+    ghost use Rattle.sector_moves.specs.SectorSpares.{sector_lead};
     ghost use Rattle.program_units.specs.laws.SmallUnits.{units_hold, units_left};
 
     ghost sectors_left = { D.sectors_left };

@@ -3,7 +3,7 @@
 use Rattle.std.specs.Prelude.{None, false}
 use Rattle.sector_board.specs.declared.sector_board.SectorBoard.{SectorBoard}
 use Rattle.nvm_board.specs.Facts.{Facts}
-use Rattle.sector_log.specs.SectorPlaces.{SectorLogState}
+use Rattle.sector_log.specs.SectorLogs.{SectorLogState}
 
 abbrev pub sector_facts : {F T : Type 0} {g : _} {h : _} → SectorBoard F T g h → Facts
 sector_facts b = record {

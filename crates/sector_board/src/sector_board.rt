@@ -8,7 +8,8 @@ ghost use Rattle.nvm_board.specs.Facts.{AreWords, IsMemory};
 use flash_board::{are_equal, has_ended};
 use flash_device::{CutFlash, FlashSocket, FollowedFlash};
 use nvm_board::{Board, COUNT_END, DeviceErr, SECRETS, Socket, WornOut};
-use sector_log::{SectorFlash, SectorLog};
+use sector_log::SectorLog;
+use sector_moves::SectorFlash;
 
 /// A board on a flash with small sectors. No write of it is long, however often power is lost.
 #[derive(Drop)]
@@ -178,9 +179,9 @@ impl<F: SectorFlash> Board for SectorBoard<F> {
     ghost use Rattle.nvm_board.specs.Facts.{address};
     ghost use Rattle.sector_board.specs.SectorFacts.{sector_facts, sector_state};
     ghost use Rattle.sector_board.specs.laws.SectorBoards.{sector_is_board};
-    ghost use Rattle.sector_log.specs.SectorPlaces.{GivesUpBehind, KeepsBeside};
-    ghost use Rattle.sector_log.specs.SectorSpares.{sector_lead, spare_slot};
-    ghost use Rattle.sector_log.specs.declared.steps.TheConstants.{TRIES};
+    ghost use Rattle.sector_log.specs.SectorLogs.{GivesUpBehind, KeepsBeside};
+    ghost use Rattle.sector_moves.specs.SectorSpares.{HasFewestSteps, sector_lead, spare_slot};
+    ghost use Rattle.flash_moves.specs.declared.ahead.TheConstants.{TRIES};
 
     ghost facts = { sector_facts };
 
@@ -196,6 +197,16 @@ impl<F: SectorFlash> Board for SectorBoard<F> {
         ensures work { (sector_state self.new).flash.operations ≡ (sector_state self.old).flash.operations }
         ensures erases { (sector_state self.new).flash.erases ≡ (sector_state self.old).flash.erases }
         ensures free { (sector_state self.old).free ≤ (sector_state self.new).free }
+        // A log that knows its pages stays as it is.
+        ensures known { 0 < (sector_state self.old).free
+            → sector_state self.new ≡ record (sector_state self.old) { flash = (sector_state self.new).flash } }
+        // Behind the read it knows them, and has a free slot for each step that is left.
+        ensures in_step { OnOk result ((0 < (sector_state self.new).free)
+            × ((sector_state self.new).steps ≤ (sector_state self.new).free)) }
+        // These are no more than by any progress that the flash shows, if that leaves at most nine slots over.
+        ensures fewest { OnOk result ((sector_state self.old).free ≡ 0
+            → HasFewestSteps F.PAGES F.SLOTS F.SECTORS F.sector_start (sector_state self.old).raw
+            (turn_of F.SLOTS (sector_state self.old).raw) (sector_state self.new).free (sector_state self.new).steps) }
         // After the first read behind a power-on, the log knows all free slots.
         ensures found { OnOk result ((sector_state self.old).fresh ≡ true
             → FindsFree F.SLOTS (sector_state self.old).raw (sector_state self.new).free) }

@@ -1,3 +1,3 @@
-pub mod SectorPlaces
-pub mod SectorSpares
+pub mod SectorLogs
+pub mod SectorOpenings
 pub mod laws

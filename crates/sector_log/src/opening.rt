@@ -1,19 +1,19 @@
 //! A log is made on a flash, or found there.
-ghost use Rattle.std.specs.Prelude.{◌≡◌, ◌<◌, ◌≤◌, ◌+◌, ◌-◌, ◌*◌, ℕ, true, false, slice_index};
-ghost use Rattle.std.specs.Prelude.{IfNone, IfOk, IfSome, OnOk};
+ghost use Rattle.std.specs.Prelude.{◌≡◌, ◌<◌, ◌≤◌, ◌+◌, ◌-◌, ◌*◌, ℕ, true, false, slice_index, IfNone, IfOk, IfSome};
+ghost use Rattle.std.specs.Prelude.{OnOk};
+ghost use Rattle.flash_device.specs.FlashBlocks.{steps_of};
 ghost use Rattle.flash_device.specs.FlashCalls.{Lights};
-ghost use Rattle.flash_device.specs.FlashLogs.{turn_of, words_of};
+ghost use Rattle.flash_device.specs.FlashLogs.{words_of};
 ghost use Rattle.flash_moves.specs.Places.{FindsFree};
 ghost use Rattle.flash_moves.specs.Rings.{IsRing};
-ghost use Rattle.sector_log.specs.SectorPlaces.{IsNotInStep, KeepsStep, place_steps};
-ghost use Rattle.sector_log.specs.SectorSpares.{HasRoomForSteps, last_sectors};
-ghost use Rattle.flash_device.specs.FlashBlocks.{steps_of};
+ghost use Rattle.sector_moves.specs.SectorPlaces.{KeepsStep, place_steps};
+ghost use Rattle.sector_moves.specs.SectorSpares.{HasRoomForSteps, last_sectors};
+ghost use Rattle.sector_log.specs.SectorOpenings.{IsNotInStep};
 
-use crate::sector_flash::SectorFlash;
-use crate::steps::{find_place, steps_left};
 use flash_device::{Flash, PageTable};
 use flash_moves::{PageMap, format_flash, has_ring};
 use nvm_board::DeviceErr;
+use sector_moves::{SectorFlash, find_place, steps_left};
 
 /// The reason why a flash isn't taken.
 #[derive(Clone, Copy, Debug, PartialEq, Eq)]

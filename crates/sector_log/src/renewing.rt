@@ -1,16 +1,15 @@
 //! A renewal: it leaves nothing in the flash but the pages as they are.
-ghost use Rattle.std.specs.Prelude.{◌≡◌, ◌<◌, ◌≤◌, ◌+◌, ◌*◌, ℕ, true, false, OnOk};
+ghost use Rattle.std.specs.Prelude.{◌≡◌, ◌<◌, ◌≤◌, ◌+◌, ◌*◌, true, false, OnOk};
 ghost use Rattle.flash_device.specs.FlashCalls.{Costs, Tries};
 ghost use Rattle.flash_device.specs.FlashLogs.{words_of};
 ghost use Rattle.flash_log.specs.Renewals.{HoldsOnlyPages};
-ghost use Rattle.sector_log.specs.SectorPlaces.{IsSectorLog};
-ghost use Rattle.sector_log.specs.SectorSpares.{sector_lead};
+ghost use Rattle.sector_moves.specs.SectorPlaces.{IsSectorLog};
+ghost use Rattle.sector_moves.specs.SectorSpares.{sector_lead};
 
-use crate::sector_flash::SectorFlash;
-use crate::steps::{find_pages, take_step};
 use flash_log::leave_area;
 use flash_moves::PageMap;
 use nvm_board::DeviceErr;
+use sector_moves::{SectorFlash, find_pages, take_step};
 
 /// Finds the pages, and ends the move that is under way. Then no step is due.
 fn end_steps<F: SectorFlash>(flash: &mut F, place: &mut PageMap<F::Table>) -> Result<(), DeviceErr>

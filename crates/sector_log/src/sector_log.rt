@@ -5,15 +5,15 @@ ghost use Rattle.nvm_board.specs.declared.board.DeviceErr.TheVariants as DeviceE
 ghost use Rattle.nvm_board.specs.Facts.{AreWords, IsMemory};
 ghost use Rattle.nvm_board.specs.History.{written};
 ghost use Rattle.flash_device.specs.FlashCalls.{Costs, Lights, Tries};
-ghost use Rattle.sector_log.specs.declared.steps.TheConstants.{TRIES};
+ghost use Rattle.flash_moves.specs.declared.ahead.TheConstants.{TRIES};
 
 use crate::opening::{SectorFault, find_log, new_place};
 use crate::renewing::renew_at;
-use crate::sector_flash::SectorFlash;
-use crate::steps::{read_at, write_at};
+use crate::tries::{read_at, write_at};
 use flash_device::{CutFlash, FlashSocket, FollowedFlash};
 use flash_moves::PageMap;
 use nvm_board::DeviceErr;
+use sector_moves::SectorFlash;
 use std::marker::Model;
 
 /// A flash with small sectors, and where its pages are.
@@ -24,7 +24,8 @@ pub struct SectorLog<F: SectorFlash> {
 }
 
 impl<F: SectorFlash> Model for SectorLog<F> {
-    ghost use Rattle.sector_log.specs.SectorPlaces.{IsSectorLog, SectorLogState, sector_log_value};
+    ghost use Rattle.sector_moves.specs.SectorPlaces.{IsSectorLog};
+    ghost use Rattle.sector_log.specs.SectorLogs.{SectorLogState, sector_log_value};
 
     ghost Value = { SectorLogState };
 
@@ -41,8 +42,10 @@ impl<F: SectorFlash> SectorLog<F> {
     ghost use Rattle.flash_moves.specs.Places.{FindsFree, state_of};
     ghost use Rattle.flash_log.specs.Renewals.{HoldsOnlyPages};
     ghost use Rattle.flash_moves.specs.Rings.{IsRing};
-    ghost use Rattle.sector_log.specs.SectorPlaces.{GivesUpBehind, KeepsBeside, SectorOpenStopsBy, new_sector_log};
-    ghost use Rattle.sector_log.specs.SectorSpares.{HasRoomForSteps, sector_lead, spare_slot};
+    ghost use Rattle.sector_log.specs.SectorLogs.{GivesUpBehind, KeepsBeside, new_sector_log};
+    ghost use Rattle.sector_log.specs.SectorOpenings.{SectorOpenStopsBy};
+    ghost use Rattle.sector_moves.specs.SectorSpares.{HasFewestSteps, HasRoomForSteps, sector_lead};
+    ghost use Rattle.sector_moves.specs.SectorSpares.{spare_slot};
 
     /// The log of a flash that has one.
     pub fn new(flash: F) -> SectorLog<F>
@@ -120,6 +123,13 @@ impl<F: SectorFlash> SectorLog<F> {
         ensures light { Lights self.old.flash self.new.flash result }
         ensures raw { self.new.raw ≡ self.old.raw }
         ensures free { self.old.free ≤ self.new.free }
+        // A log that knows its pages stays as it is.
+        ensures known { 0 < self.old.free → self.new ≡ record self.old { flash = self.new.flash } }
+        // Behind the read it knows them, and has a free slot for each step that is left.
+        ensures in_step { OnOk result ((0 < self.new.free) × (self.new.steps ≤ self.new.free)) }
+        // These are no more than by any progress that the flash shows, if that leaves at most nine slots over.
+        ensures fewest { OnOk result (self.old.free ≡ 0 → HasFewestSteps F.PAGES F.SLOTS F.SECTORS F.sector_start
+            self.old.raw (turn_of F.SLOTS self.old.raw) self.new.free self.new.steps) }
         // After the first read behind a power-on, the log knows all free slots.
         ensures found { OnOk result (self.old.fresh ≡ true → FindsFree F.SLOTS self.old.raw self.new.free) }
         // If it fails before it knows them, the next read looks for them.

@@ -6,7 +6,8 @@ use flash_device::FlashSocket;
 use nvm_board::Board;
 use program_units::UnitFlash;
 use sector_board::SectorBoard;
-use sector_log::{SectorFlash, SectorLog, format_sectors};
+use sector_log::{SectorLog, format_sectors};
+use sector_moves::SectorFlash;
 use simulated_chips::{
     Eight, Four, One, SimSpares, SimUnits, SmallSectors, SmallSpares, UnitSectors, UnitSize,
 };

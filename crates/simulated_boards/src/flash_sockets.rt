@@ -6,7 +6,7 @@ ghost use Rattle.flash_moves.specs.Places.{state_of};
 ghost use Rattle.flash_moves.specs.Rings.{IsRing};
 ghost use Rattle.sector_board.specs.SectorFacts.{sector_facts};
 ghost use Rattle.sector_board.specs.SectorFollowers.{sector_board_is_kept};
-ghost use Rattle.sector_log.specs.SectorSpares.{HasRoomForSteps};
+ghost use Rattle.sector_moves.specs.SectorSpares.{HasRoomForSteps};
 ghost use Rattle.simulated_boards.specs.CutFlashFacts.{cut_flash_facts};
 
 use crate::cut_flash_board::CutFlashBoard;
@@ -15,7 +15,8 @@ use flash_board::FlashBoard;
 use flash_device::{CutFlash, FollowedFlash};
 use flash_log::FlashLog;
 use sector_board::SectorBoard;
-use sector_log::{SectorFlash, SectorLog};
+use sector_log::SectorLog;
+use sector_moves::SectorFlash;
 
 /// Returns the board on a powered flash that has a log and no cut set. It is the board of this flash, since code for
 /// any type of flash has no other.

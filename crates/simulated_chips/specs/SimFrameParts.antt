@@ -4,7 +4,7 @@ use Rattle.std.proofs.Common.{ap, ⊎_elim, arith, lit<}
 use Rattle.std.proofs.lemmas.Bool.{cases_lt, le-leb, lt-leb}
 use Rattle.flash_device.specs.declared.layout.TheConstants.{STEP_PAGES}
 use Rattle.flash_area.specs.Spares.{spare_sector}
-use Rattle.sector_log.specs.SectorSpares.{sector_lead}
+use Rattle.sector_moves.specs.SectorSpares.{sector_lead}
 
 -- the first frame of a sector, where so many of one size come before the witness
 abbrev pub even_frame : ℕ → ℕ → ℕ → ℕ

@@ -6,7 +6,7 @@ use Rattle.std.proofs.lemmas.Bool.{cases_lt, le-leb, lt-leb}
 use Rattle.flash_device.specs.FlashBlocks.{area_size}
 use Rattle.flash_device.specs.declared.layout.TheConstants.{STEP_PAGES}
 use Rattle.flash_area.specs.Spares.{spare_in, spare_sector}
-use Rattle.sector_log.specs.SectorSpares.{sector_lead, spare_slot}
+use Rattle.sector_moves.specs.SectorSpares.{sector_lead, spare_slot}
 
 abbrev pub small_sector : ℕ → ℕ
 small_sector s = if nat_le s 79 then 512 * s

@@ -7,7 +7,7 @@ ghost use Rattle.simulated_chips.specs.declared.small_sectors.TheConstants.{SMAL
 use crate::sim_flash::{blank_run, garble_run, next_random, put_run};
 use flash_device::{BLANK, Flash, FlashSocket, PageSlots};
 use nvm_board::DeviceErr;
-use sector_log::SectorFlash;
+use sector_moves::SectorFlash;
 use std::alloc::{AllocError, Global};
 
 /// The number of slots of an area.

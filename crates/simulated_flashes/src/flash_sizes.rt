@@ -3,7 +3,7 @@ ghost use Rattle.std.specs.Prelude.{◌≡◌, ◌<◌, ◌≤◌, ◌+◌, ◌*
 ghost use Rattle.flash_device.specs.FlashBlocks.{area_size, flash_size};
 ghost use Rattle.flash_device.specs.declared.layout.TheConstants.{SPARES, STEP_PAGES};
 ghost use Rattle.flash_area.specs.Spares.{spare_sector};
-ghost use Rattle.sector_log.specs.SectorSpares.{sector_lead, spare_slot};
+ghost use Rattle.sector_moves.specs.SectorSpares.{sector_lead, spare_slot};
 ghost use Rattle.simulated_flashes.specs.EvenSectors.{even_sector, even_size};
 
 use flash_device::SLOT_WORDS;

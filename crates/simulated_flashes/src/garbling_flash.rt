@@ -13,7 +13,7 @@ use crate::flash_sizes::{FlashSizes, SmallSizes, area_words, flash_words, size, 
 use crate::garbage::{blank_run, first_random, next_random, put_run, tear_run};
 use flash_device::{BLANK, CutFlash, Flash, FlashSocket, PageSlots};
 use nvm_board::DeviceErr;
-use sector_log::SectorFlash;
+use sector_moves::SectorFlash;
 use std::alloc::{AllocError, Global};
 use std::marker::PhantomData;
 

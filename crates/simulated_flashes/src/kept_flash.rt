@@ -17,7 +17,7 @@ use crate::flash_sizes::{FlashSizes, SmallSizes, size, start};
 use crate::garbling_flash::{FLASH_PAGES, GarblingFlash};
 use flash_device::{CutFlash, Flash, FlashSocket, FollowedFlash, PageSlots};
 use nvm_board::DeviceErr;
-use sector_log::SectorFlash;
+use sector_moves::SectorFlash;
 
 /// A flash in working memory, and its follower, if it has one. The flash hands the words of each program and erase to
 /// its follower, once, in order, as the operation left them, also if it lost power. A follower that fails changes

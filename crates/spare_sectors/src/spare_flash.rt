@@ -13,7 +13,7 @@ use crate::spare_device::{SpareDevice, SpareSocket};
 use crate::spare_places::start_of;
 use flash_device::{Flash, FlashSocket, PageTable};
 use nvm_board::DeviceErr;
-use sector_log::SectorFlash;
+use sector_moves::SectorFlash;
 
 /// A flash over a device with spare sectors. A sector that can't be erased is put into a spare one.
 #[derive(Drop)]
@@ -202,7 +202,7 @@ impl<D: SmallSpareDevice> SectorFlash for SpareFlash<D> {
     ghost use Rattle.std.proofs.Common.{arith};
     ghost use Rattle.flash_device.specs.FlashBlocks.{steps_of};
     ghost use Rattle.flash_device.specs.declared.layout.TheConstants.{STEP_PAGES};
-    ghost use Rattle.sector_log.specs.SectorSpares.{sector_lead};
+    ghost use Rattle.sector_moves.specs.SectorSpares.{sector_lead};
     ghost use Rattle.spare_sectors.specs.laws.SmallSpares.{parts_hold, parts_left};
 
     ghost sectors_left = { D.sectors_left };

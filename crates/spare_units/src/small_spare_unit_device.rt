@@ -2,7 +2,7 @@
 ghost use Rattle.std.specs.Prelude.{◌<◌, ◌≤◌, ◌+◌, ◌*◌};
 ghost use Rattle.flash_device.specs.FlashBlocks.{steps_of};
 ghost use Rattle.flash_device.specs.declared.layout.TheConstants.{SPARES as PASSED_SLOTS, STEP_PAGES};
-ghost use Rattle.sector_log.specs.SectorSpares.{sector_lead};
+ghost use Rattle.sector_moves.specs.SectorSpares.{sector_lead};
 
 use crate::spare_unit_device::SpareUnitDevice;
 

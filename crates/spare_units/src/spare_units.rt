@@ -244,7 +244,7 @@ impl<D: SmallSpareUnitDevice> SmallUnitDevice for SpareUnits<D> {
     ghost use Rattle.std.proofs.Common.{arith};
     ghost use Rattle.flash_device.specs.FlashBlocks.{steps_of};
     ghost use Rattle.flash_device.specs.declared.layout.TheConstants.{STEP_PAGES};
-    ghost use Rattle.sector_log.specs.SectorSpares.{sector_lead};
+    ghost use Rattle.sector_moves.specs.SectorSpares.{sector_lead};
     ghost use Rattle.spare_units.specs.laws.SmallFrames.{frames_hold, frames_left};
 
     ghost sectors_left = { D.sectors_left };

@@ -18,7 +18,7 @@ NAMES = ("A", "B")
 # a step of a move copies so many pages
 STEP_PAGES = 16
 STEPS = PAGES // STEP_PAGES
-# the tries of a write, and how many numbers of steps a power-on looks at first (crates/sector_log)
+# the tries of a write, and how many numbers of steps a power-on looks at first (crates/sector_moves)
 TRIES = 8
 NEAR_STEPS = TRIES + 2
 

@@ -153,7 +153,7 @@ SMALL = Small(SMALL_FILES, {SPECS: {"pub mod DeviceSectors": "pub mod DeviceSect
 # of units: the same by the frames of a sector
 SMALL_UNITS = Small(SMALL_FILES, {
     SPECS: {"pub mod DeviceFrames": "pub mod DeviceFrames\npub mod SmallSectors"},
-    SMALL_LAW: {"DeviceFlash": "DeviceUnits", "sector_log": "program_units", "SectorFlash": "SmallUnitDevice"},
+    SMALL_LAW: {"DeviceFlash": "DeviceUnits", "sector_moves": "program_units", "SectorFlash": "SmallUnitDevice"},
     SMALL_SPECS: {
         "FlashBlocks.{area_size, steps_of}": "FlashBlocks.{steps_of}",
         "SectorSpares.{sector_lead, spare_slot}": "SectorSpares.{sector_lead}",
@@ -178,7 +178,7 @@ SMALL_SPARE_UNITS = Small(SMALL_SPARE_FILES, {
 SMALLS = {
     (False, False): SMALL, (True, False): SMALL_UNITS, (False, True): SMALL_SPARES, (True, True): SMALL_SPARE_UNITS}
 # the crates of ours that a flash of small sectors uses too, and the card over it
-SMALL_BELOW, SMALL_BOARDS = "flash_area sector_log", "sector_log sector_board"
+SMALL_BELOW, SMALL_BOARDS = "flash_area sector_moves", "sector_log sector_board"
 SMALL_BOARD = {"use flash_board::FlashBoard;": "use sector_board::SectorBoard as FlashBoard;"}
 SMALL_TEXTS = {
     "crates/device_flash/src/lib.rt": {"mod slots;": "mod slots;\nmod small;"},

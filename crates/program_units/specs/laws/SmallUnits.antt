@@ -4,7 +4,7 @@ use Rattle.std.proofs.Common.{arith}
 use Rattle.flash_device.specs.FlashBlocks.{area_size, steps_of}
 use Rattle.flash_device.specs.laws.Rising.{rises_to}
 use Rattle.flash_area.specs.Spares.{spare_in, spare_sector}
-use Rattle.sector_log.specs.SectorSpares.{spare_slot}
+use Rattle.sector_moves.specs.SectorSpares.{spare_slot}
 use Rattle.program_units.specs.UnitFrames.{frame_start}
 use Rattle.program_units.specs.laws.UnitPlaces.{start_low, start_middle}
 

@@ -10,9 +10,9 @@ use Rattle.flash_device.specs.FlashLogs.{base_in, turn_of}
 use Rattle.flash_device.specs.PageTables.{AreFree}
 use Rattle.flash_moves.specs.Paces.{KeepsRoom}
 use Rattle.flash_moves.specs.Rings.{IsRing}
-use Rattle.sector_log.specs.laws.Stepping.{none_begun, sector_steps_most}
-use Rattle.sector_log.specs.SectorPlaces.{IsSectorLog}
-use Rattle.sector_log.specs.SectorSpares.{HasRoomForSteps, sector_lead}
+use Rattle.sector_moves.specs.laws.Stepping.{none_begun, sector_steps_most}
+use Rattle.sector_moves.specs.SectorPlaces.{IsSectorLog}
+use Rattle.sector_moves.specs.SectorSpares.{HasRoomForSteps, sector_lead}
 
 module _ (pages slots sectors : ℕ) (start : ℕ → ℕ) (least : LEAST_PAGES ≤ pages) (first : start 0 ≡ 0)
     (second : start sectors ≡ area_size slots) (third : start (2 * sectors) ≡ witness_start slots)

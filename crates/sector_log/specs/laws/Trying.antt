@@ -1,18 +1,20 @@
 -- Laws of a write whose record is tried again.
-use Rattle.std.specs.Prelude.{◌≡◌, ◌≢◌, ◌⊎◌, ◌<◌, ◌≤◌, ◌+◌, ◌-◌, ℕ, Bool, true, false, Result, IsErrOf}
-use Rattle.std.specs.Prelude.{Ok, Err, IsErrAnd, if◌then◌else◌}
-use Rattle.std.proofs.Common.{refl, sym, ◌∙◌, ap, inl, inr, ⊎_elim, arith}
+use Rattle.std.specs.Prelude.{◌≡◌, ◌≢◌, ◌⊎◌, ◌<◌, ◌≤◌, ◌+◌, ◌-◌, ℕ, Bool, true, false, Result, IsErrOf, Ok, Err}
+use Rattle.std.specs.Prelude.{IsErrAnd, List, if◌then◌else◌}
+use Rattle.std.proofs.Common.{refl, sym, ◌∙◌, ap, inl, inr, ⊎_elim, subst, arith}
 use Rattle.nvm_board.specs.declared.board.DeviceErr.{DeviceErr}
 use Rattle.nvm_board.specs.declared.board.DeviceErr.TheVariants.{Fault, PowerLost}
 use Rattle.flash_device.specs.FlashBlocks.{steps_of}
 use Rattle.flash_device.specs.FlashCalls.{FlashState, KeepsPower, Tries}
 use Rattle.flash_moves.specs.declared.place.PageMap.{PageMap}
 use Rattle.flash_moves.specs.Paces.{free_slots}
-use Rattle.sector_log.specs.declared.steps.TheConstants.{TRIES}
-use Rattle.sector_log.specs.SectorPlaces.{EndsSectorStep, HasBeside, KeepsBeside, StaysAtStep, StopsAtStep}
-use Rattle.sector_log.specs.SectorPlaces.{known_older, known_sector_steps, place_steps, sector_log_value}
-use Rattle.sector_log.specs.SectorSpares.{sector_lead, sector_steps}
-use Rattle.sector_log.specs.laws.Stepping.{sector_steps_most}
+use Rattle.flash_moves.specs.Places.{state_of}
+use Rattle.flash_moves.specs.declared.ahead.TheConstants.{TRIES}
+use Rattle.sector_moves.specs.SectorPlaces.{EndsSectorStep, KeepsStep, StaysAtStep, place_steps}
+use Rattle.sector_moves.specs.SectorSpares.{HasFewestSteps, IsSectorSpare, sector_lead, sector_steps}
+use Rattle.sector_moves.specs.laws.Stepping.{sector_steps_most}
+use Rattle.sector_log.specs.SectorLogs.{HasBeside, KeepsBeside, StopsAtStep, known_older, known_sector_steps}
+use Rattle.sector_log.specs.SectorLogs.{sector_log_value}
 
 -- by what a value is
 pub by_bool : {A : Type 0} (b : Bool) → (b ≡ true → A) → (b ≡ false → A) → A
@@ -108,6 +110,49 @@ older_known p ready = ap (λ (b : Bool). if b then p.older else 0) ready
 
 pub free_is : {T : Type 0} (slots : ℕ) (p : PageMap T) → p.ready ≡ true → free_slots slots p ≡ slots - p.next
 free_is slots p ready = ap (λ (b : Bool). if b then slots - p.next else 0) ready
+
+-- a log that knows its pages has a free slot for each step that is left
+pub steps_fit : {T : Type 0} (entries : T → List ℕ) (pages slots sectors : ℕ) (start : ℕ → ℕ) (m : List ℕ)
+    (p : PageMap T) → p.ready ≡ true → KeepsStep entries pages slots sectors start m p
+    → (0 < free_slots slots p) × (known_sector_steps pages sectors p ≤ free_slots slots p)
+steps_fit entries pages slots sectors start m p ready keeps =
+    let free = free_is slots p ready in
+    let steps = steps_known pages sectors p ready in
+    let room = keeps.room in
+    let most = keeps.place.spare.most in
+    (omega (arith, free, room, most), omega (arith, free, steps, room))
+
+-- what a look finds, as the log knows it
+pub fewest_known : {T : Type 0} (pages slots sectors : ℕ) (start : ℕ → ℕ) (m : List ℕ) (p : PageMap T) (turn : ℕ)
+    → (p.ready ≡ true → p.turn ≡ turn)
+    → HasFewestSteps pages slots sectors start m p.turn (slots - p.next) (place_steps pages sectors p)
+    → HasFewestSteps pages slots sectors start m turn (free_slots slots p) (known_sector_steps pages sectors p)
+fewest_known pages slots sectors start m p turn is few = record {
+  fewest = λ e c o spare fits near. by_bool p.ready
+      (λ ready.
+      let same = is ready in
+      let free = free_is slots p ready in
+      let known = steps_known pages sectors p ready in
+      let there : IsSectorSpare pages slots sectors start m p.turn e c o =
+      subst (λ (t : ℕ). IsSectorSpare pages slots sectors start m t e c o) (sym same) spare in
+      let turned : sector_steps pages sectors p.turn e c ≡ sector_steps pages sectors turn e c =
+      ap (λ (t : ℕ). sector_steps pages sectors t e c) same in
+      let most = few.fewest e c o there (omega (arith, fits, free, turned)) (omega (arith, near, free, turned)) in
+      omega (arith, most, known, turned))
+      (λ unready.
+      let none : known_sector_steps pages sectors p ≡ 0 =
+      ap (λ (b : Bool). if b then place_steps pages sectors p else 0) unready in
+      omega (arith, none));
+}
+
+-- where the place stays, and the words of the flash, so does all that contracts know, but the flash
+pub value_stays : {T : Type 0} (pages slots sectors : ℕ) (s t : FlashState) (p q : PageMap T)
+    → (p.ready ≡ true → q ≡ p) → t.words ≡ s.words → 0 < free_slots slots p
+    → sector_log_value pages slots sectors t q
+    ≡ record (sector_log_value pages slots sectors s p) { flash = state_of pages slots t }
+value_stays pages slots sectors s t p q same words some =
+    ap (λ (r : PageMap _). sector_log_value pages slots sectors t r) (same (free_known slots p some).0)
+    ∙ ap (λ (m : List ℕ). record (sector_log_value pages slots sectors t p) { raw = m }) words
 
 module _ {T : Type 0} (pages slots sectors : ℕ) (p q : PageMap T) where
   -- a step that is taken leaves its slot to the record, and one that failed has a fault

@@ -6,7 +6,7 @@ use Rattle.std.proofs.lemmas.Bool.{cases_lt, le-leb, le-ltb, lt-leb, lt-ltb}
 use Rattle.flash_device.specs.FlashBlocks.{area_size}
 use Rattle.flash_device.specs.declared.layout.TheConstants.{STEP_PAGES}
 use Rattle.flash_area.specs.Spares.{spare_in, spare_sector}
-use Rattle.sector_log.specs.SectorSpares.{sector_lead, spare_slot}
+use Rattle.sector_moves.specs.SectorSpares.{sector_lead, spare_slot}
 use Rattle.simulated_flashes.specs.EvenSectors.{even_sector}
 
 even_in_a : (each area last s : ℕ) → s < last → even_sector each area last s ≡ each * s

@@ -3,7 +3,7 @@ use Rattle.std.specs.Prelude.{◌≡◌, ◌<◌, ◌≤◌, ◌+◌, ◌*◌, �
 use Rattle.std.proofs.Common.{arith}
 use Rattle.flash_device.specs.FlashBlocks.{area_size}
 use Rattle.flash_area.specs.Spares.{spare_in, spare_sector}
-use Rattle.sector_log.specs.SectorSpares.{spare_slot}
+use Rattle.sector_moves.specs.SectorSpares.{spare_slot}
 use Rattle.spare_sectors.specs.SparePlaces.{TakesLog, part_start}
 use Rattle.spare_sectors.specs.laws.SpareParts.{start_a, start_b}
 

@@ -12,7 +12,7 @@ from .spare_units import DRIVERS
 
 # each kind of flash: what is asked for, and the trait of its device
 KINDS: dict[str, tuple[list[object], str]] = {
-    "sector_log::SectorFlash": ([], "DeviceFlash"),
+    "sector_moves::SectorFlash": ([], "DeviceFlash"),
     "program_units::SmallUnitDevice": (["--unit", 32], "DeviceUnits"),
     "spare_sectors::SmallSpareDevice": (["--spares", 5], "DeviceSectors"),
     "spare_units::SmallSpareUnitDevice": (["--unit", 32, "--spares", 5], "DeviceSectors"),

@@ -1,8 +1,8 @@
 use Rattle.std.proofs.Common.{◌≡◌, ◌⊎◌, ◌<◌, ◌≤◌, ◌+◌, ◌*◌, true, false}
 use Rattle.flash_device.specs.FlashCalls.{KeepsPower}
 use Rattle.flash_device.specs.FlashLogs.{words_of}
-use Rattle.sector_log.specs.SectorPlaces.{IsSectorLog, place_steps}
-use Rattle.sector_log.specs.SectorSpares.{sector_lead}
+use Rattle.sector_moves.specs.SectorPlaces.{IsSectorLog, place_steps}
+use Rattle.sector_moves.specs.SectorSpares.{sector_lead}
 use Rattle.sector_log.proofs.renewing.end_steps.Given as goal
 
 abbrev pub invariant-loop : goal.invariant-loop

@@ -5,8 +5,8 @@ use Rattle.command_base.specs.Finding.{Finds}
 use Rattle.flash_board.specs.FlashFacts.{made_of}
 use Rattle.flash_device.specs.FlashCalls.{FlashState}
 use Rattle.flash_moves.specs.Rings.{IsRing}
-use Rattle.sector_log.specs.SectorPlaces.{SectorLogState}
-use Rattle.sector_log.specs.SectorSpares.{HasRoomForSteps}
+use Rattle.sector_log.specs.SectorLogs.{SectorLogState}
+use Rattle.sector_moves.specs.SectorSpares.{HasRoomForSteps}
 use Rattle.simulated_flashes.specs.GarblingStates.{garbling_state}
 use Rattle.simulated_flashes.specs.declared.garbling_flash.TheConstants.{FLASH_PAGES}
 use Rattle.card_boards.specs.FlashImages.{kind_start, small_kind, words_on_flash}

@@ -1,5 +1,5 @@
 use Rattle.std.proofs.Common.{sym, ap, ◌∙◌}
-use Rattle.sector_log.specs.SectorPlaces.{SectorLogState}
+use Rattle.sector_log.specs.SectorLogs.{SectorLogState}
 use Rattle.sector_log.proofs.sector_log.SectorLog.has_no_fault.Goals as goal
 
 pub returns : goal.returns

@@ -1,8 +1,8 @@
 use Rattle.std.proofs.Common.{ℕ, List, arith}
 use Rattle.flash_moves.specs.declared.place.PageMap.{PageMap}
-use Rattle.sector_log.specs.SectorPlaces.{IsSectorLog}
-use Rattle.sector_log.specs.SectorSpares.{HasRoomForSteps}
-use Rattle.sector_log.specs.laws.Keeping.{in_step_from}
+use Rattle.sector_moves.specs.SectorPlaces.{IsSectorLog}
+use Rattle.sector_moves.specs.SectorSpares.{HasRoomForSteps}
+use Rattle.sector_moves.specs.laws.Keeping.{in_step_from}
 use Rattle.sector_log.specs.laws.Trying.{by_bool}
 use Rattle.sector_log.proofs.sector_log.SectorLog.into_flash.Goals as goal
 

@@ -4,7 +4,7 @@ use Rattle.nvm_board.specs.laws.Sizes.{memory_of_pages}
 use Rattle.flash_device.specs.FlashLogs.{words_of}
 use Rattle.flash_area.specs.laws.Words.{length-words}
 use Rattle.flash_moves.specs.laws.Lighting.{words_fit}
-use Rattle.sector_log.specs.SectorPlaces.{SectorLogState}
+use Rattle.sector_log.specs.SectorLogs.{SectorLogState}
 use Rattle.sector_log.proofs.sector_log.SectorLog.words_fit.Goals as goal
 
 pub returns-clause-size : goal.returns-clause-size

@@ -1,7 +1,7 @@
 use Rattle.std.proofs.Common.{◌⊎◌, ◌<◌, ◌≤◌, ◌+◌, ℕ, IsErrOf, subst}
 use Rattle.nvm_board.specs.declared.board.DeviceErr.TheVariants.{Fault}
-use Rattle.sector_log.specs.SectorPlaces.{SectorLogState, StopsAtStep, sector_log_value}
-use Rattle.sector_log.specs.declared.steps.TheConstants.{TRIES}
+use Rattle.sector_log.specs.SectorLogs.{SectorLogState, StopsAtStep, sector_log_value}
+use Rattle.flash_moves.specs.declared.ahead.TheConstants.{TRIES}
 use Rattle.sector_log.proofs.sector_log.SectorLog.write.Goals as goal
 
 pub returns-clause-keeps_trying : goal.returns-clause-keeps_trying

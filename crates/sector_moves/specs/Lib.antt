@@ -1,0 +1,3 @@
+pub mod SectorPlaces
+pub mod SectorSpares
+pub mod laws
