@@ -274,7 +274,7 @@ fn an_erase_that_fails_is_done_by_the_next_write(rt: HostRuntime) -> Result<(), 
         steps = steps.saturating_add(u32::from(is_step));
     }
     check_words(flash, &mut book)?;
-    // The record is put beside most steps that failed.
+    // A record is put though its step failed: fewer writes fail than steps.
     assert!(rt; book.moves == 2 && book.failures < steps);
     assert!(rt; 2 * COPIES <= steps && steps <= 2 * LEAD);
     Ok(())
