@@ -115,6 +115,9 @@ pub fn find_pages<F: Flash>(flash: &mut F, place: &mut PageMap<F::Table>) -> Res
     ensures stands { (extra : ℕ) → extra ≤ extra_of F.PAGES F.SLOTS F.SECTORS
         → WillKeepPace F.PAGES F.SLOTS F.SECTORS F.sector_start (F.state flash.old).words extra place.old
         → WillKeepPace F.PAGES F.SLOTS F.SECTORS F.sector_start (F.state flash.new).words extra place.new }
+    // No slot is passed over.
+    ensures begins { (n : ℕ) → BeginsBy F.SLOTS (log_value F.PAGES F.SLOTS F.SECTORS (F.state flash.old) place.old) n
+        → BeginsBy F.SLOTS (log_value F.PAGES F.SLOTS F.SECTORS (F.state flash.new) place.new) n }
     ensures light { Lights (F.state flash.old) (F.state flash.new) result }
 {
     if place.ready {
@@ -328,6 +331,9 @@ pub fn read_at<F: Flash>(
     ensures stands { (extra : ℕ) → extra ≤ extra_of F.PAGES F.SLOTS F.SECTORS
         → WillKeepPace F.PAGES F.SLOTS F.SECTORS F.sector_start (F.state flash.old).words extra place.old
         → WillKeepPace F.PAGES F.SLOTS F.SECTORS F.sector_start (F.state flash.new).words extra place.new }
+    // No slot is passed over.
+    ensures begins { (n : ℕ) → BeginsBy F.SLOTS (log_value F.PAGES F.SLOTS F.SECTORS (F.state flash.old) place.old) n
+        → BeginsBy F.SLOTS (log_value F.PAGES F.SLOTS F.SECTORS (F.state flash.new) place.new) n }
     ensures light { Lights (F.state flash.old) (F.state flash.new) result }
 {
     find_pages(flash, place)?;

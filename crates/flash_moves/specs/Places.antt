@@ -17,11 +17,12 @@ pub record IsPlaceOf {T : Type 0} (entries : T → List ℕ) (pages slots sector
   pub free : AreFree m (base_in slots p.turn) p.next slots
   pub spare : IsSpare pages slots sectors start m (words_of pages slots m) p.turn p.erased p.copied p.behind p.older
 
--- The flash stands for words, and the place is its own where it says so.
+-- The flash stands for words, and the place is its own where it says so. No slot was tried that it knows to be free.
 pub record IsLog {T : Type 0} (entries : T → List ℕ) (pages slots sectors : ℕ) (start : ℕ → ℕ) (m : List ℕ)
     (p : PageMap T) : Type 0 where
   pub ring : IsRing slots m
   pub known : p.ready ≡ true → IsPlaceOf entries pages slots sectors start m p
+  pub passed : p.tried + free_slots slots p ≤ slots
 
 -- A flash with the words of its board in place of its own.
 abbrev pub state_of : ℕ → ℕ → FlashState → FlashState

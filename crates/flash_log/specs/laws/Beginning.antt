@@ -1,12 +1,11 @@
 -- Laws of where the next write begins: no slot is passed over but those of tries.
 use Rattle.std.specs.Prelude.{◌≡◌, ◌≤◌, ◌+◌, ◌-◌, ℕ, Bool, true, false, List, if◌then◌else◌}
-use Rattle.std.proofs.Common.{refl, sym, ◌∙◌, ap, ⊎_elim, subst, arith, true≢false}
+use Rattle.std.proofs.Common.{refl, sym, ◌∙◌, ap, subst, arith}
 use Rattle.flash_moves.specs.declared.place.PageMap.{PageMap}
 use Rattle.flash_device.specs.FlashCalls.{FlashState}
 use Rattle.flash_device.specs.FlashLogs.{base_in, turn_of}
 use Rattle.flash_device.specs.PageTables.{AreFree}
-use Rattle.flash_moves.specs.Paces.{IsInPaceFrom, KeepsHome, KeepsPace, LogState, StaysInArea, WillKeepPace}
-use Rattle.flash_moves.specs.Paces.{free_slots}
+use Rattle.flash_moves.specs.Paces.{KeepsHome, LogState, StaysInArea, free_slots}
 use Rattle.flash_moves.specs.Places.{log_value}
 use Rattle.flash_moves.specs.laws.Pacing.{free_of}
 use Rattle.flash_log.specs.SlotsInTurn.{BeginsBy, IsNextSlot, TakesInTurn, passed_slots}
@@ -79,6 +78,13 @@ module _ {T : Type 0} (pages slots sectors : ℕ) where
       (subst (λ (t : ℕ). IsNextSlot slots new.words t k) tried
       (subst (λ (b : Bool). IsNextSlot slots new.words (if b then slots - free_slots slots q else q.tried) k) lost is)))
 
+  -- Calls that only read change nothing.
+  pub begins_same : (old new : FlashState) (p : PageMap T) (n : ℕ) → new.words ≡ old.words
+      → BeginsBy slots (log_value pages slots sectors old p) n
+      → BeginsBy slots (log_value pages slots sectors new p) n
+  begins_same old new p n words begins k is = begins k
+      (subst (λ (l : List ℕ). IsNextSlot slots l (passed_slots slots (log_value pages slots sectors old p)) k) words is)
+
   -- One that found them found the slot.
   pub begins_found : (s : FlashState) (p q : PageMap T) (n : ℕ)
       → AreFree s.words (base_in slots (turn_of slots s.words)) q.next slots → (p.ready ≡ true → q ≡ p)
@@ -116,13 +122,3 @@ module _ {T : Type 0} (pages slots sectors : ℕ) where
       let still : StaysInArea slots found.words stepped.words = stays ∙ sym (ap (base_in slots) turn) in
       begins_on found stepped q s n free passed (begins_next found q n ready free begins) home still tried
       (λ there. next there still)
-
-  -- in pace no slot behind those of the area is tried
-  pub tried_within : (start : ℕ → ℕ) (m : List ℕ) (extra : ℕ) (p : PageMap T) → p.ready ≡ false
-      → WillKeepPace pages slots sectors start m extra p → p.tried ≤ slots
-  tried_within start m extra p unready = ⊎_elim
-      (λ (z : KeepsPace pages slots sectors extra p). absurd (true≢false (sym z.ready ∙ unready)))
-      (λ (z : (p.ready ≡ false) × IsInPaceFrom pages slots sectors start m extra p.tried).
-      let passed = z.1.passed in
-      let within = z.1.pace.free.within in
-      omega (arith, passed, within))

@@ -85,8 +85,9 @@ module _ {T : Type 0} (entries : T → List ℕ) (pages slots sectors : ℕ) (st
         → KeepsOthers slots m (spare_in slots p.turn) page after (s + 1) → s < slots → length record_words ≡ 18
         → slice_index record_words 16 ≡ page
         → ((k : ℕ) → k < 16 → slice_index record_words k ≡ page_word m (base_in slots p.turn) slots page k)
+        → p.tried ≤ p.next
         → IsLog entries pages slots sectors start after (record p { ready = true; behind = s + 1; older = 0 })
-    older_put s record_words put kept below size names each =
+    older_put s record_words put kept below size names each passed =
         let has : HasCopies pages slots after (words_of pages slots after) (base_in slots p.turn)
         (spare_in slots p.turn)
         (STEP_PAGES * p.copied) (s + 1) 0 =
@@ -101,6 +102,7 @@ module _ {T : Type 0} (entries : T → List ℕ) (pages slots sectors : ℕ) (st
         ∙ sym (index-page pages slots m page k older_page few))) in
         record {
           ring = older_stays.ring;
+          passed = let within = at.free.within in omega (arith, passed, within);
           known = λ _. record {
             turn = at.turn ∙ sym older_stays.turn;
             small = at.small;

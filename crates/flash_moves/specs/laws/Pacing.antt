@@ -107,6 +107,27 @@ module _ {T : Type 0} (pages slots sectors : ℕ) where
   pub free_of : (p : PageMap T) → p.ready ≡ true → free_slots slots p ≡ slots - p.next
   free_of p ready = ap (λ (b : Bool). if b then slots - p.next else 0) ready
 
+  -- an area has no more of them
+  pub free_within : (p : PageMap T) → free_slots slots p ≤ slots
+  free_within p = by_ready p.ready
+    where
+      by_ready : (b : Bool) → (if b then slots - p.next else 0) ≤ slots
+      by_ready true = omega arith
+      by_ready false = omega arith
+
+  -- so where none was tried, none is among them
+  pub none_tried : (p : PageMap T) → p.tried ≡ 0 → p.tried + free_slots slots p ≤ slots
+  none_tried p none = let most = free_within p in omega (arith, none, most)
+
+  -- no slot behind those of the area was tried
+  pub tried_within : (p : PageMap T) → p.tried + free_slots slots p ≤ slots → p.tried ≤ slots
+  tried_within p passed = omega (arith, passed)
+
+  -- none was that is known to be free
+  pub tried_next : (p : PageMap T) → p.ready ≡ true → p.next ≤ slots → p.tried + free_slots slots p ≤ slots
+      → p.tried ≤ p.next
+  tried_next p ready within passed = let free = free_of p ready in omega (arith, passed, free, within)
+
   -- so many steps are left
   pub left_of : (p : PageMap T) → p.ready ≡ true → known_steps pages sectors p ≡ steps_left pages sectors p
   left_of p ready = ap (λ (b : Bool). if b then steps_left pages sectors p else 0) ready

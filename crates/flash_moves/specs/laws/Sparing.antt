@@ -466,6 +466,7 @@ module _ (pages slots : ℕ) where
         → IsLog entries pages slots sectors start m (record p { erased = 0; copied = 0; behind = 0; older = 0 })
     log_anew least m p log = record {
       ring = log.ring;
+      passed = log.passed;
       known = λ is. let known = log.known is in record {
         turn = known.turn;
         small = known.small;

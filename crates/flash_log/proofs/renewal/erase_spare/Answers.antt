@@ -1,4 +1,4 @@
-use Rattle.std.proofs.Common.{◌≡◌, ℕ, ap, sym, subst, ◌∙◌, true≢false}
+use Rattle.std.proofs.Common.{◌≡◌, ◌+◌, ◌-◌, ℕ, ap, sym, subst, ◌∙◌, arith, true≢false}
 use Rattle.flash_device.specs.declared.flash.TheConstants.{BLANK}
 use Rattle.flash_device.specs.FlashBlocks.{area_size}
 use Rattle.flash_device.specs.FlashCalls.{AreFilled, SameElsewhere}
@@ -8,6 +8,7 @@ use Rattle.flash_area.specs.laws.Copying.{area_free}
 use Rattle.flash_log.specs.laws.Renewing.{spare_erased}
 use Rattle.flash_moves.specs.laws.Sparing.{index_same, spare_leaves, spare_stays}
 use Rattle.flash_moves.specs.laws.Losing.{free_by_area}
+use Rattle.flash_moves.specs.laws.Pacing.{free_of}
 use Rattle.flash_moves.specs.Paces.{KeepsFree, KeepsRoom}
 use Rattle.flash_log.proofs.renewal.erase_spare.Given.{Over}
 use Rattle.flash_log.proofs.renewal.erase_spare.Goals.{After-erase_area}
@@ -48,7 +49,11 @@ returns-in_err-erase_area-clause-log g c =
     c.erase_area.ensures.elsewhere in
     let stays = spare_stays pages slots m after place.turn c.requires.log.ring known.turn known.small c.requires.ready.1
     within in
-    record { ring = stays.ring; known = λ e. absurd (true≢false (sym e)) }
+    record {
+      ring = stays.ring;
+      passed = let passed = c.requires.log.passed in omega (arith, passed);
+      known = λ e. absurd (true≢false (sym e));
+    }
 
 pub returns-clause-words : goal.returns-clause-words
 returns-clause-words g c = erase_words g (goal.at.returns-clause-words g c).After-erase_area
@@ -73,6 +78,10 @@ returns-clause-log g c =
     let base = base_in slots place.turn in
     record {
       ring = stays.ring;
+      passed =
+          let passed = c.requires.log.passed in
+          let free = free_of pages slots g.F.Flash.SECTORS place c.requires.ready.0 in
+          omega (arith, passed, free);
       known = λ _. record {
         turn = known.turn ∙ sym stays.turn;
         small = known.small;

@@ -8,9 +8,10 @@ use Rattle.flash_moves.specs.Paces.{IsInPace, KeepsPace, lost_since, steps_left}
 use Rattle.flash_moves.specs.Places.{FindsFree}
 use Rattle.flash_moves.specs.laws.Lighting.{lights_once}
 use Rattle.flash_moves.specs.laws.Losing.{before_found, none_copied, stands_in_pace}
-use Rattle.flash_log.specs.laws.Beginning.{begins_found, begins_lost, begins_on, tried_within}
+use Rattle.flash_log.specs.laws.Beginning.{begins_found, begins_lost, begins_on}
 use Rattle.flash_log.specs.laws.TakingTurns.{found_next, lost_next, still_next, was_lost}
 use Rattle.flash_moves.specs.laws.Pacing.{caught_more, free_of, from_more, lost_so, place_in_pace, stands_more}
+use Rattle.flash_moves.specs.laws.Pacing.{tried_within}
 use Rattle.flash_log.proofs.steps.catch_up.Goals as goal
 
 pub returns-clause-next : goal.returns-clause-next
@@ -199,7 +200,7 @@ returns-clause-begins g c = λ extra n roomy stands begins.
     let pace = c.in_ok-find_pages.ensures.in_pace extra (omega (arith, roomy)) stands in
     let most = begins_found pages slots sectors old p q n free c.find_pages.ensures.known
     (λ unready. c.in_ok-find_pages.ensures.is_next unready
-    (tried_within pages slots sectors start old.words extra p unready stands)) begins in
+    (tried_within pages slots sectors p c.requires.log.passed)) begins in
     let tried = c.copy_older.ensures.tried in
     begins_on pages slots sectors mid new q c.copy_older.new.place n here pace.passed most c.copy_older.ensures.home
     (ap (base_in slots) c.copy_older.ensures.turn) (omega (arith, tried)) (λ ready. c.copy_older.ensures.next)

@@ -45,6 +45,7 @@ returns-then-place-eq0-clause-log g c =
     let after = (g.F.Flash.state c.move_to_b.new.flash).words in
     record {
       ring = c.move_to_b.ensures.ring;
+      passed = omega arith;
       known = λ _. record {
         turn = sym c.in_ok-free_in_b.ensures.done;
         small = omega arith;
@@ -63,6 +64,7 @@ returns-clause-log g c =
     let after = (g.F.Flash.state c.move_to_a.new.flash).words in
     record {
       ring = c.move_to_a.ensures.ring;
+      passed = omega arith;
       known = λ _. record {
         turn = sym c.in_ok-free_in_a.ensures.done;
         small = omega arith;

@@ -2,6 +2,7 @@ use Rattle.std.proofs.Common.{◌/◌, ◌%◌, ℕ, List, slice_index, sym, ap,
 use Rattle.flash_device.specs.FlashLogs.{base_in, page_word, words_of}
 use Rattle.flash_moves.specs.laws.Pacing.{fresh_is}
 use Rattle.flash_area.specs.laws.Words.{index-words}
+use Rattle.flash_log.specs.laws.Beginning.{begins_same}
 use Rattle.flash_log.proofs.steps.read_at.Goals as goal
 
 pub returns-clause-word : goal.returns-clause-word
@@ -33,3 +34,15 @@ returns-in_err-word-clause-stands g c = λ extra fits stands.
 pub returns-clause-stands : goal.returns-clause-stands
 returns-clause-stands g c = λ extra fits stands.
     inl (c.in_ok-find_pages.ensures.in_pace extra fits stands)
+
+pub returns-in_err-word-clause-begins : goal.returns-in_err-word-clause-begins
+returns-in_err-word-clause-begins g c = λ n begins.
+    begins_same g.F.Flash.PAGES g.F.Flash.SLOTS g.F.Flash.SECTORS (g.F.Flash.state c.find_pages.new.flash)
+    (g.F.Flash.state c.read_page_word.new.flash) c.find_pages.new.place n c.read_page_word.ensures.words
+    (c.find_pages.ensures.begins n begins)
+
+pub returns-clause-begins : goal.returns-clause-begins
+returns-clause-begins g c = λ n begins.
+    begins_same g.F.Flash.PAGES g.F.Flash.SLOTS g.F.Flash.SECTORS (g.F.Flash.state c.find_pages.new.flash)
+    (g.F.Flash.state c.read_page_word.new.flash) c.find_pages.new.place n c.read_page_word.ensures.words
+    (c.find_pages.ensures.begins n begins)

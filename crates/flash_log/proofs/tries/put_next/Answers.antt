@@ -43,6 +43,7 @@ returns-in_err-write_run-clause-log g c =
     let after = (g.F.Flash.state c.write_run.new.flash).words in
     record {
       ring = ring_same slots m after c.write_run.ensures.marks c.requires.log.ring;
+      passed = let room = c.requires.room in omega (arith, room);
       known = λ e. absurd (true≢false (sym e));
     }
 
@@ -91,6 +92,7 @@ returns-clause-log g c =
     let next = place.next + 1 in
     record {
       ring = ring_same slots m after marks c.requires.log.ring;
+      passed = let room = c.requires.room in omega (arith, room);
       known = λ _. record {
         turn = known.turn ∙ sym (turn_same slots m after marks);
         small = known.small;

@@ -14,10 +14,9 @@ use Rattle.flash_moves.specs.Places.{IsPlaceOf, log_value}
 use Rattle.flash_area.specs.Spares.{FindsFurthest}
 use Rattle.flash_log.specs.SlotsInTurn.{BeginsBy, GivesUp, TakesInTurn, WillTake}
 use Rattle.flash_log.specs.laws.Beginning.{begins_at, begins_behind, begins_later, begins_lost, begins_tried}
-use Rattle.flash_log.specs.laws.Beginning.{tried_within}
 use Rattle.flash_log.specs.laws.GivingUp.{gives_up_found}
 use Rattle.flash_moves.specs.laws.Lighting.{lights_faults, lights_once}
-use Rattle.flash_moves.specs.laws.Pacing.{steps_most}
+use Rattle.flash_moves.specs.laws.Pacing.{steps_most, tried_within}
 use Rattle.flash_log.specs.laws.Retrying.{err_holds, lights_tries, tries_behind}
 use Rattle.flash_log.specs.laws.TakingTurns.{finds_again, finds_own, finds_takes, finds_then, lost_next, was_lost}
 use Rattle.flash_log.proofs.tries.write_again.Given.{Over}
@@ -377,15 +376,13 @@ returns-in_err-find_pages-clause-passes g c = λ failed extra n fits stands begi
     c.requires.unready c.in_err-find_pages.ensures.unready c.find_pages.ensures.tried c.find_pages.ensures.words begins)
 
 -- the slots behind the next one that was found are free, and it is that of the try
-own_begins : (g : Over) (c : After-keep_own g) (extra n : ℕ)
-    → WillKeepPace g.F.Flash.PAGES g.F.Flash.SLOTS g.F.Flash.SECTORS g.F.Flash.sector_start
-    (g.F.Flash.state c.args.flash.now).words extra c.args.place.now
+own_begins : (g : Over) (c : After-keep_own g) (n : ℕ)
     → BeginsBy g.F.Flash.SLOTS (log_value g.F.Flash.PAGES g.F.Flash.SLOTS g.F.Flash.SECTORS
     (g.F.Flash.state c.args.flash.now) c.args.place.now) n
     → AreFree (g.F.Flash.state c.find_pages.new.flash).words
     (base_in g.F.Flash.SLOTS (turn_of g.F.Flash.SLOTS (g.F.Flash.state c.find_pages.new.flash).words))
     c.keep_own.new.place.next g.F.Flash.SLOTS × (c.keep_own.new.place.next ≤ n)
-own_begins g c = λ extra n stands begins.
+own_begins g c = λ n begins.
     let slots = g.F.Flash.SLOTS in
     let pages = g.F.Flash.PAGES in
     let sectors = g.F.Flash.SECTORS in
@@ -398,7 +395,7 @@ own_begins g c = λ extra n stands begins.
     subst (λ (t : ℕ). AreFree mid.words (base_in slots t) r.next slots) known.turn known.free in
     let next = c.keep_own.ensures.same.1 in
     let is = c.in_ok-find_pages.ensures.is_next c.requires.unready
-    (tried_within pages slots sectors g.F.Flash.sector_start old.words extra p c.requires.unready stands) in
+    (tried_within pages slots sectors p c.requires.log.passed) in
     let most = begins_tried pages slots sectors old p n c.find_pages.new.place.next c.requires.unready begins is in
     (free, omega (arith, next, most))
 
@@ -406,7 +403,7 @@ pub returns-then-not-has_slot-clause-begins : goal.returns-then-not-has_slot-cla
 returns-then-not-has_slot-clause-begins g c = λ extra n fits stands begins.
     let mid = g.F.Flash.state c.find_pages.new.flash in
     let r = c.keep_own.new.place in
-    let is = own_begins g (goal.at.returns-then-not-has_slot-clause-begins g c).After-keep_own extra n stands begins in
+    let is = own_begins g (goal.at.returns-then-not-has_slot-clause-begins g c).After-keep_own n begins in
     let most = is.1 in
     begins_at g.F.Flash.PAGES g.F.Flash.SLOTS g.F.Flash.SECTORS mid r r.next (n + 1) is.0 (λ ready. omega arith)
     (λ unready. absurd (true≢false (sym (c.keep_own.ensures.same.0 ∙ c.in_ok-find_pages.ensures.ready) ∙ unready)))
@@ -420,7 +417,7 @@ returns-clause-begins g c = λ extra n fits stands begins.
     let mid = g.F.Flash.state c.find_pages.new.flash in
     let new = g.F.Flash.state c.put_next.new.flash in
     let r = c.keep_own.new.place in
-    let most = (own_begins g (goal.at.returns-clause-begins g c).After-keep_own extra n stands begins).1 in
+    let most = (own_begins g (goal.at.returns-clause-begins g c).After-keep_own n begins).1 in
     begins_behind slots r.next 1 (n + 1) (log_value pages slots sectors mid r)
     (log_value pages slots sectors new c.put_next.new.place) (omega (arith, most))
     (c.put_next.ensures.slots extra
@@ -432,7 +429,7 @@ returns-then-not-has_slot-clause-passes g c = λ failed extra n fits stands begi
     let old = g.F.Flash.state c.args.flash.now in
     let mid = g.F.Flash.state c.find_pages.new.flash in
     let r = c.keep_own.new.place in
-    let is = own_begins g (goal.at.returns-then-not-has_slot-clause-passes g c).After-keep_own extra n stands begins in
+    let is = own_begins g (goal.at.returns-then-not-has_slot-clause-passes g c).After-keep_own n begins in
     let most = is.1 in
     begins_at g.F.Flash.PAGES g.F.Flash.SLOTS g.F.Flash.SECTORS mid r r.next (n + (mid.faults - old.faults)) is.0
     (λ ready. omega arith)

@@ -11,7 +11,7 @@ use Rattle.flash_device.specs.laws.Marks.{elsewhere_wider}
 use Rattle.flash_moves.specs.laws.Moving.{Stays}
 use Rattle.flash_moves.specs.laws.Lighting.{tries_faults}
 use Rattle.flash_moves.specs.laws.Losing.{by_result, copied_takes, copy_in_pace, err_lost, pass_in_pace, stepped_failed}
-use Rattle.flash_moves.specs.laws.Pacing.{from_more, paced_behind, stepped_fresh, stepped_more}
+use Rattle.flash_moves.specs.laws.Pacing.{free_of, from_more, paced_behind, stepped_fresh, stepped_more}
 use Rattle.flash_moves.specs.laws.Sparing.{area_home, home_then, index_same, log_anew, pass_home, spare_copied}
 use Rattle.flash_moves.specs.laws.Sparing.{spare_leaves, spare_put, spare_stays, two_sides}
 use Rattle.flash_moves.proofs.ahead.copy_next.Goals as goal
@@ -48,7 +48,11 @@ returns-in_err-behind-clause-log g c =
     c.copy_step.ensures.elsewhere in
     let stays : Stays pages slots m after =
     spare_stays pages slots m after turn c.requires.log.ring known.turn known.small c.requires.moves.0 wide in
-    record { ring = stays.ring; known = λ e. absurd (true≢false (sym e)) }
+    record {
+      ring = stays.ring;
+      passed = let passed = c.requires.log.passed in omega (arith, passed);
+      known = λ e. absurd (true≢false (sym e));
+    }
 
 pub returns-clause-words : goal.returns-clause-words
 returns-clause-words g c =
@@ -90,6 +94,10 @@ returns-clause-log g c =
     let most = known.spare.most in
     record {
       ring = stays.ring;
+      passed =
+          let passed = c.requires.log.passed in
+          let free = free_of pages slots g.F.Flash.SECTORS place c.requires.ready in
+          omega (arith, passed, free);
       known = λ _. record {
         turn = known.turn ∙ sym stays.turn;
         small = known.small;

@@ -1,4 +1,4 @@
-use Rattle.std.proofs.Common.{◌≡◌, ◌+◌, ◌-◌, ℕ, refl, sym, subst, inl, inr, ◌∙◌, true≢false}
+use Rattle.std.proofs.Common.{◌≡◌, ◌+◌, ◌-◌, ℕ, refl, sym, subst, inl, inr, ◌∙◌, true≢false, arith}
 use Rattle.flash_device.specs.declared.flash.TheConstants.{BLANK}
 use Rattle.flash_device.specs.FlashBlocks.{area_size}
 use Rattle.flash_device.specs.FlashCalls.{AreFilled, SameElsewhere}
@@ -9,7 +9,7 @@ use Rattle.flash_moves.specs.laws.Moving.{Stays}
 use Rattle.flash_moves.specs.Paces.{KeepsHome}
 use Rattle.flash_moves.specs.laws.Sparing.{area_home, index_same, sector_within, spare_leaves, spare_more, spare_stays}
 use Rattle.flash_moves.specs.laws.Losing.{erase_in_pace}
-use Rattle.flash_moves.specs.laws.Pacing.{stepped_erased}
+use Rattle.flash_moves.specs.laws.Pacing.{free_of, stepped_erased}
 use Rattle.flash_moves.proofs.ahead.erase_next.Given.{Over}
 use Rattle.flash_moves.proofs.ahead.erase_next.Goals.{After-erase}
 use Rattle.flash_moves.proofs.ahead.erase_next.Goals as goal
@@ -47,6 +47,10 @@ returns-clause-log g c =
     let base = base_in slots turn in
     record {
       ring = stays.ring;
+      passed =
+          let passed = c.requires.log.passed in
+          let free = free_of pages slots sectors place c.requires.ready in
+          omega (arith, passed, free);
       known = λ _. record {
         turn = known.turn ∙ sym stays.turn;
         small = known.small;
@@ -139,7 +143,11 @@ returns-in_err-erase-clause-log g c =
     spare_stays pages slots m after place.turn c.requires.log.ring known.turn known.small c.requires.moves.0
     (sector_within pages slots sectors start rise fit.0 fit.1 fit.2 fit.4 m after place.turn place.erased
     c.requires.moves.1 run) in
-    record { ring = stays.ring; known = λ e. absurd (true≢false (sym e)) }
+    record {
+      ring = stays.ring;
+      passed = let passed = c.requires.log.passed in omega (arith, passed);
+      known = λ e. absurd (true≢false (sym e));
+    }
 
 pub returns-in_err-erase-clause-stands : goal.returns-in_err-erase-clause-stands
 returns-in_err-erase-clause-stands g c = λ extra pace.

@@ -6,7 +6,7 @@ use Rattle.flash_area.specs.laws.Copying.{SameArea, area_free}
 use Rattle.flash_moves.specs.laws.Moving.{witness_area}
 use Rattle.flash_moves.specs.laws.Sparing.{area_home, index_same, spare_none}
 use Rattle.flash_moves.specs.laws.Losing.{witness_free, witness_in_pace}
-use Rattle.flash_moves.specs.laws.Pacing.{stepped_on}
+use Rattle.flash_moves.specs.laws.Pacing.{free_of, stepped_on}
 use Rattle.flash_moves.proofs.ahead.pass_on.Goals as goal
 
 pub pass_witness-requires-clause-turn : goal.pass_witness-requires-clause-turn
@@ -29,6 +29,10 @@ returns-clause-log g c =
     witness_area pages slots m after c.pass_witness.ensures.area in
     record {
       ring = c.pass_witness.ensures.ring;
+      passed =
+          let passed = c.requires.log.passed in
+          let free = free_of pages slots g.F.Flash.SECTORS place c.requires.ready in
+          omega (arith, passed, free);
       known = λ _. record {
         turn = sym c.in_ok-pass_witness.ensures.done;
         small = omega arith;

@@ -1,4 +1,4 @@
-use Rattle.std.proofs.Common.{◌≡◌, ℕ, List, sym, ap, subst, ◌∙◌, arith, true≢false}
+use Rattle.std.proofs.Common.{◌≡◌, ℕ, List, refl, sym, ap, subst, ◌∙◌, arith, true≢false}
 use Rattle.flash_device.specs.FlashCalls.{SameElsewhere}
 use Rattle.flash_device.specs.FlashLogs.{base_in, close_of, turn_of, words_of}
 use Rattle.flash_device.specs.PageTables.{AreFree, IsPageTable}
@@ -6,6 +6,7 @@ use Rattle.flash_moves.specs.Rings.{IsRing}
 use Rattle.flash_area.specs.Spares.{spare_in}
 use Rattle.flash_area.specs.laws.Copying.{area_free}
 use Rattle.flash_moves.specs.laws.Sparing.{pass_opened, pass_words, pass_ring, pass_turn, pass_area, spare_none}
+use Rattle.flash_moves.specs.laws.Pacing.{none_tried}
 use Rattle.flash_moves.proofs.ahead.pass_turn.Goals as goal
 
 pub close-requires-clause-opened : goal.close-requires-clause-opened
@@ -41,7 +42,11 @@ returns-in_err-close-clause-log g c =
     let ring : IsRing slots after =
     pass_ring pages slots m after place.turn place.behind moves.2 c.requires.turn moves.0 moves.1 c.requires.copies
     c.close.ensures.elsewhere in
-    record { ring = ring; known = λ e. absurd (true≢false (sym e ∙ c.requires.unready)) }
+    record {
+      ring = ring;
+      passed = none_tried pages slots g.F.Flash.SECTORS (record place { tried = 0 }) refl;
+      known = λ e. absurd (true≢false (sym e ∙ c.requires.unready));
+    }
 
 pub returns-in_err-scan-clause-words : goal.returns-in_err-scan-clause-words
 returns-in_err-scan-clause-words g c =
@@ -73,6 +78,7 @@ returns-in_err-scan-clause-log g c =
     let same : last ≡ after = c.scan.ensures.words in
     record {
       ring = subst (IsRing slots) (sym same) ring;
+      passed = none_tried pages slots g.F.Flash.SECTORS (record place { tried = 0; table = c.scan.new.table }) refl;
       known = λ e. absurd (true≢false (sym e ∙ c.requires.unready));
     }
 
@@ -123,6 +129,7 @@ returns-clause-log g c =
     let most = c.spare-next.ensures.most in
     record {
       ring = subst (IsRing slots) (sym same) ring;
+      passed = omega arith;
       known = λ _. record {
         turn = sym (ap (turn_of slots) same ∙ turn);
         small = omega (arith, most);

@@ -9,7 +9,7 @@ use Rattle.flash_device.specs.PageTables.{AreFree}
 use Rattle.flash_device.specs.PutRecords.{IsPut}
 use Rattle.flash_moves.specs.Paces.{IsInPaceFrom, lost_since, IsInPace, KeepsHome, KeepsPace}
 use Rattle.flash_moves.specs.laws.Losing.{err_lost, in_pace_more, none_caught, older_caught, place_stands, tries_once}
-use Rattle.flash_moves.specs.laws.Pacing.{caught_more, from_more}
+use Rattle.flash_moves.specs.laws.Pacing.{caught_more, from_more, tried_next}
 use Rattle.flash_device.specs.laws.Marks.{elsewhere_wider}
 use Rattle.flash_moves.specs.laws.Moving.{Stays}
 use Rattle.flash_moves.specs.laws.Sparing.{area_home, home_read, spare_leaves}
@@ -120,6 +120,7 @@ returns-in_err-slot-clause-log g c =
     (subst (λ (l : List ℕ). SameElsewhere l (base_in slots c.spare.result) (20 * slots) after)
     c.record_of.ensures.words c.put_in_spare.ensures.elsewhere) in
     record {
+      passed = let passed = c.requires.log.passed in omega (arith, passed);
       ring = (older_stays entries pages slots sectors start m place page known some names after c.requires.log.ring
           elsewhere).ring;
       known = λ e. absurd (true≢false (sym e));
@@ -217,6 +218,7 @@ returns-clause-log g c =
     s words (subst (λ (b : ℕ). IsPut after (slot_of b s) words) there put.1) kept below size named
     (λ k few. c.in_ok-found.ensures.each k few
     ∙ ap (λ (b : ℕ). page_word m b slots page k) (c.home.ensures.is slots))
+    (tried_next pages slots sectors place c.requires.ready known.free.within c.requires.log.passed)
 
 pub returns-clause-lost : goal.returns-clause-lost
 returns-clause-lost g c = put_lost g (goal.at.returns-clause-lost g c).After-put_in_spare

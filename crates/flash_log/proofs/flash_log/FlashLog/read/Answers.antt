@@ -1,7 +1,8 @@
 use Rattle.std.proofs.Common.{◌≡◌, ◌⊎◌, ◌<◌, ◌≤◌, ◌∙◌, ℕ, true, false, ap, subst, arith}
 use Rattle.std.proofs.lemmas.Result.{on_ok_weaker}
 use Rattle.flash_moves.specs.declared.place.PageMap.{PageMap}
-use Rattle.flash_moves.specs.Places.{FindsFree}
+use Rattle.flash_moves.specs.Places.{FindsFree, log_value}
+use Rattle.flash_log.specs.SlotsInTurn.{BeginsBy}
 use Rattle.flash_moves.specs.Paces.{IsInPaceFrom, KeepsPace, LogState, StandsInPace, WillKeepPace, free_slots, is_fresh}
 use Rattle.flash_moves.specs.Paces.{extra_of, extra_slots, is_paced, lead_of}
 use Rattle.flash_moves.specs.laws.Pacing.{free_same, fresh_is, is_paced_by, paced_is, stands_view, view_stands}
@@ -95,3 +96,10 @@ returns-clause-stands g c = λ extra fits.
     c.self.view_is
     (λ stands. view_stands pages slots sectors extra start after place
     (c.read_at.ensures.stands extra fits (stands_view pages slots sectors extra start m c.self.inside.place stands)))
+
+pub returns-clause-begins : goal.returns-clause-begins
+returns-clause-begins g c = λ n.
+    let slots = g.F.Flash.SLOTS in
+    let after = log_value g.F.Flash.PAGES slots g.F.Flash.SECTORS (g.F.Flash.state c.read_at.new.flash)
+    c.read_at.new.place in
+    subst (λ (l : LogState). BeginsBy slots l n → BeginsBy slots after n) c.self.view_is (c.read_at.ensures.begins n)
