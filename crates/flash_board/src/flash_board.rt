@@ -270,7 +270,7 @@ impl<F: Flash> Board for FlashBoard<F> {
         ensures stands { (extra : ℕ) → extra ≤ extra_of F.PAGES F.SLOTS F.SECTORS
             → StandsInPace F.PAGES F.SLOTS F.SECTORS F.sector_start extra (log_state self.old)
             → StandsInPace F.PAGES F.SLOTS F.SECTORS F.sector_start extra (log_state self.new) }
-        // No slot is passed over: the next write in this area begins where it would have begun, or before.
+        // No slot is passed over: the next slot is where it was, or before.
         ensures begins { (n : ℕ) → BeginsBy F.SLOTS (log_state self.old) n → BeginsBy F.SLOTS (log_state self.new) n }
         // It programs and erases nothing.
         ensures work { (log_state self.new).flash.operations ≡ (log_state self.old).flash.operations }

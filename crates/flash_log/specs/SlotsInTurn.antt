@@ -21,7 +21,7 @@ pub record WillTake (slots : ℕ) (l : LogState) (n : ℕ) : Type 0 where
   pub next : IsNextSlot slots l.raw (passed_slots slots l) n
   pub paced : l.ready ≡ true → l.paced ≡ true
 
--- No next slot lies behind this one: the next write in this area begins here or before.
+-- The next slot is this one, or before it.
 abbrev pub BeginsBy : ℕ → LogState → ℕ → Type 0
 BeginsBy slots l n = (k : ℕ) → IsNextSlot slots l.raw (passed_slots slots l) k → k ≤ n
 

@@ -173,7 +173,7 @@ impl<F: Flash> FlashLog<F> {
         ensures stands { (extra : ℕ) → extra ≤ extra_of F.PAGES F.SLOTS F.SECTORS
             → StandsInPace F.PAGES F.SLOTS F.SECTORS F.sector_start extra self.old
             → StandsInPace F.PAGES F.SLOTS F.SECTORS F.sector_start extra self.new }
-        // No slot is passed over: the next write in this area begins where it would have begun, or before.
+        // No slot is passed over: the next slot is where it was, or before.
         ensures begins { (n : ℕ) → BeginsBy F.SLOTS self.old n → BeginsBy F.SLOTS self.new n }
         ensures raw { self.new.raw ≡ self.old.raw }
     {

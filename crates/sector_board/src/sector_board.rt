@@ -203,7 +203,7 @@ impl<F: SectorFlash> Board for SectorBoard<F> {
         // Behind the read it knows them, and has a free slot for each step that is left.
         ensures in_step { OnOk result ((0 < (sector_state self.new).free)
             × ((sector_state self.new).steps ≤ (sector_state self.new).free)) }
-        // These are no more than by any progress that the flash shows, if that leaves at most nine slots over.
+        // If it had to look, they are no more than by any progress that the flash shows with nine slots over at most.
         ensures fewest { OnOk result ((sector_state self.old).free ≡ 0
             → HasFewestSteps F.PAGES F.SLOTS F.SECTORS F.sector_start (sector_state self.old).raw
             (turn_of F.SLOTS (sector_state self.old).raw) (sector_state self.new).free (sector_state self.new).steps) }

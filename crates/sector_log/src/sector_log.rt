@@ -127,7 +127,7 @@ impl<F: SectorFlash> SectorLog<F> {
         ensures known { 0 < self.old.free → self.new ≡ record self.old { flash = self.new.flash } }
         // Behind the read it knows them, and has a free slot for each step that is left.
         ensures in_step { OnOk result ((0 < self.new.free) × (self.new.steps ≤ self.new.free)) }
-        // These are no more than by any progress that the flash shows, if that leaves at most nine slots over.
+        // If it had to look, they are no more than by any progress that the flash shows with nine slots over at most.
         ensures fewest { OnOk result (self.old.free ≡ 0 → HasFewestSteps F.PAGES F.SLOTS F.SECTORS F.sector_start
             self.old.raw (turn_of F.SLOTS self.old.raw) self.new.free self.new.steps) }
         // After the first read behind a power-on, the log knows all free slots.
