@@ -46,6 +46,7 @@ impl<F: Flash> FlashBoard<F> {
     ghost use Rattle.flash_moves.specs.Paces.{lead_of, lost_since, move_steps_of};
     ghost use Rattle.flash_log.specs.Renewals.{HoldsOnlyPages};
     ghost use Rattle.flash_log.specs.SlotsInTurn.{WillTake};
+    ghost use Rattle.flash_log.specs.StepsLeft.{ShowsLeft};
 
     /// The board of a log that has power. Its counts are 0.
     pub fn new(log: FlashLog<F>) -> FlashBoard<F>
@@ -107,6 +108,11 @@ impl<F: Flash> FlashBoard<F> {
         // In pace the next write takes the first of them.
         ensures next { (log_state self.now).paced ≡ true → 0 < (log_state self.now).free
             → WillTake F.SLOTS (log_state self.now) (F.SLOTS - (log_state self.now).free) }
+        // None of them was tried.
+        ensures passed { (log_state self.now).tried + (log_state self.now).free ≤ F.SLOTS }
+        // A log that knows its pages knows a progress of the move that the flash shows.
+        ensures shows { (log_state self.now).ready ≡ true → ShowsLeft F.PAGES F.SLOTS F.SECTORS F.sector_start
+            (log_state self.now).raw (log_state self.now).left }
     {
         self.log.has_free();
     }
@@ -234,7 +240,8 @@ impl<F: Flash> Board for FlashBoard<F> {
     ghost use Rattle.flash_moves.specs.Paces.{CopiesNoPage, IsInPace, IsRoomy, Pauses, RegainsSlots, StandsInPace};
     ghost use Rattle.flash_moves.specs.Paces.{StaysInArea, TakesSlot, extra_of, failed_since, lead_of, lost_since};
     ghost use Rattle.flash_moves.specs.Places.{FindsFree};
-    ghost use Rattle.flash_log.specs.SlotsInTurn.{BeginsBy, GivesUp, TakesInTurn, WillTake};
+    ghost use Rattle.flash_log.specs.SlotsInTurn.{BeginsBy, GivesUp, SameNext, TakesInTurn, WillTake};
+    ghost use Rattle.flash_log.specs.StepsLeft.{HasFewestLeft};
     ghost use Rattle.flash_moves.specs.declared.ahead.TheConstants.{TRIES};
     ghost use Rattle.flash_board.specs.laws.Boards.{flash_is_board};
     ghost use Rattle.nvm_board.specs.BoardCalls.{Compares, FitsPage, TellsWord, Writes};
@@ -263,18 +270,31 @@ impl<F: Flash> Board for FlashBoard<F> {
         ensures in_pace { OnOk result ((log_state self.old).ready ≡ false
             → lead_of F.PAGES F.SECTORS < (log_state self.new).free
             → ((log_state self.new).paced ≡ true) × ((log_state self.new).extra ≡ 0)) }
-        // Else it finds how far the move has come, as long as the flash was in pace and has the slots for its losses.
+        // Else what it finds is in pace, as long as the flash was and has the slots for its losses.
         ensures finds { OnOk result ((extra : ℕ) → extra ≤ extra_of F.PAGES F.SLOTS F.SECTORS
             → StandsInPace F.PAGES F.SLOTS F.SECTORS F.sector_start extra (log_state self.old)
             → ((log_state self.new).paced ≡ true) × ((log_state self.new).extra ≤ extra)) }
         ensures stands { (extra : ℕ) → extra ≤ extra_of F.PAGES F.SLOTS F.SECTORS
             → StandsInPace F.PAGES F.SLOTS F.SECTORS F.sector_start extra (log_state self.old)
             → StandsInPace F.PAGES F.SLOTS F.SECTORS F.sector_start extra (log_state self.new) }
-        // No slot is passed over: the next slot is where it was, or before.
-        ensures begins { (n : ℕ) → BeginsBy F.SLOTS (log_state self.old) n → BeginsBy F.SLOTS (log_state self.new) n }
+        // Where a move may be under way, no more steps are left than by each that the flash shows.
+        ensures fewest { (log_state self.old).ready ≡ false → (log_state self.new).ready ≡ true
+            → (log_state self.new).free ≤ lead_of F.PAGES F.SECTORS
+            → HasFewestLeft F.PAGES F.SLOTS F.SECTORS F.sector_start (log_state self.old).raw
+            (F.SLOTS - (log_state self.new).free) (log_state self.new).left }
+        // A log stays as it is if it knew its pages, or still has to find them. Behind Ok it knows them.
+        ensures known { (log_state self.old).ready ≡ true
+            → log_state self.new ≡ record (log_state self.old) { flash = (log_state self.new).flash } }
+        ensures waits { (log_state self.new).ready ≡ false
+            → log_state self.new ≡ record (log_state self.old) { flash = (log_state self.new).flash } }
+        ensures ready { OnOk result ((log_state self.new).ready ≡ true) }
+        // No slot is passed over, and until power-on none is taken again.
+        ensures same_next { SameNext F.SLOTS (log_state self.old) (log_state self.new) }
+        ensures tried { (log_state self.new).tried ≡ (log_state self.old).tried }
         // It programs and erases nothing.
         ensures work { (log_state self.new).flash.operations ≡ (log_state self.old).flash.operations }
         ensures erases { (log_state self.new).flash.erases ≡ (log_state self.old).flash.erases }
+        ensures raw { (log_state self.new).raw ≡ (log_state self.old).raw }
     {
         if self.dark {
             return Err(DeviceErr::PowerLost);

@@ -1,4 +1,5 @@
 pub mod Openings
 pub mod Renewals
 pub mod SlotsInTurn
+pub mod StepsLeft
 pub mod laws

@@ -1,5 +1,5 @@
 -- The slots that a write takes, each try the next one, and when none is left.
-use Rattle.std.specs.Prelude.{◌≡◌, ◌⊎◌, ◌≤◌, ◌+◌, ◌-◌, ◌*◌, ℕ, true, List, if◌then◌else◌}
+use Rattle.std.specs.Prelude.{◌≡◌, ◌⊎◌, ◌↔◌, ◌≤◌, ◌+◌, ◌-◌, ◌*◌, ℕ, true, List, if◌then◌else◌}
 use Rattle.flash_area.specs.Spares.{MoveBeginsAnew, MoveGoesOn, steps_from}
 use Rattle.flash_device.specs.FlashCalls.{SameElsewhere}
 use Rattle.flash_device.specs.FlashLogs.{base_in, slot_of, turn_of}
@@ -20,6 +20,11 @@ pub record IsNextSlot (slots : ℕ) (m : List ℕ) (from n : ℕ) : Type 0 where
 pub record WillTake (slots : ℕ) (l : LogState) (n : ℕ) : Type 0 where
   pub next : IsNextSlot slots l.raw (passed_slots slots l) n
   pub paced : l.ready ≡ true → l.paced ≡ true
+
+-- The next slot is the same.
+abbrev pub SameNext : ℕ → LogState → LogState → Type 0
+SameNext slots old new = (n : ℕ)
+    → IsNextSlot slots old.raw (passed_slots slots old) n ↔ IsNextSlot slots new.raw (passed_slots slots new) n
 
 -- The next slot is this one, or before it.
 abbrev pub BeginsBy : ℕ → LogState → ℕ → Type 0

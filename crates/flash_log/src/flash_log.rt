@@ -56,7 +56,8 @@ impl<F: Flash> FlashLog<F> {
     ghost use Rattle.flash_device.specs.PageTables.{AreFree};
     ghost use Rattle.flash_moves.specs.Paces.{IsInPace, StandsInPace, StaysInArea};
     ghost use Rattle.flash_moves.specs.Rings.{IsRing};
-    ghost use Rattle.flash_log.specs.SlotsInTurn.{BeginsBy, GivesUp, TakesInTurn, WillTake};
+    ghost use Rattle.flash_log.specs.SlotsInTurn.{BeginsBy, GivesUp, SameNext, TakesInTurn, WillTake};
+    ghost use Rattle.flash_log.specs.StepsLeft.{HasFewestLeft, ShowsLeft};
 
     /// The log of a flash that has one.
     pub fn new(flash: F) -> FlashLog<F>
@@ -126,6 +127,11 @@ impl<F: Flash> FlashLog<F> {
         // In pace the next write takes the first of them.
         ensures next { self.now.paced ≡ true → 0 < self.now.free
             → WillTake F.SLOTS self.now (F.SLOTS - self.now.free) }
+        // None of them was tried.
+        ensures passed { self.now.tried + self.now.free ≤ F.SLOTS }
+        // A log that knows its pages knows a progress of the move that the flash shows.
+        ensures shows { self.now.ready ≡ true
+            → ShowsLeft F.PAGES F.SLOTS F.SECTORS F.sector_start self.now.raw self.now.left }
     {
         let _ = &self.flash;
     }
@@ -166,15 +172,24 @@ impl<F: Flash> FlashLog<F> {
         // With more free slots than a move begins at, no move is under way.
         ensures in_pace { self.old.ready ≡ false
             → lead_of F.PAGES F.SECTORS < self.new.free → (self.new.paced ≡ true) × (self.new.extra ≡ 0) }
-        // Else it finds how far the move has come, as long as the flash was in pace and has the slots for its losses.
+        // Else what it finds is in pace, as long as the flash was and has the slots for its losses.
         ensures finds { OnOk result ((extra : ℕ) → extra ≤ extra_of F.PAGES F.SLOTS F.SECTORS
             → StandsInPace F.PAGES F.SLOTS F.SECTORS F.sector_start extra self.old
             → (self.new.paced ≡ true) × (self.new.extra ≤ extra)) }
         ensures stands { (extra : ℕ) → extra ≤ extra_of F.PAGES F.SLOTS F.SECTORS
             → StandsInPace F.PAGES F.SLOTS F.SECTORS F.sector_start extra self.old
             → StandsInPace F.PAGES F.SLOTS F.SECTORS F.sector_start extra self.new }
-        // No slot is passed over: the next slot is where it was, or before.
-        ensures begins { (n : ℕ) → BeginsBy F.SLOTS self.old n → BeginsBy F.SLOTS self.new n }
+        // Where a move may be under way, no more steps are left than by each that the flash shows.
+        ensures fewest { self.old.ready ≡ false → self.new.ready ≡ true → self.new.free ≤ lead_of F.PAGES F.SECTORS
+            → HasFewestLeft F.PAGES F.SLOTS F.SECTORS F.sector_start self.old.raw (F.SLOTS - self.new.free)
+            self.new.left }
+        // A log stays as it is if it knew its pages, or still has to find them. Behind Ok it knows them.
+        ensures known { self.old.ready ≡ true → self.new ≡ record self.old { flash = self.new.flash } }
+        ensures waits { self.new.ready ≡ false → self.new ≡ record self.old { flash = self.new.flash } }
+        ensures ready { OnOk result (self.new.ready ≡ true) }
+        // No slot is passed over, and until power-on none is taken again.
+        ensures same_next { SameNext F.SLOTS self.old self.new }
+        ensures tried { self.new.tried ≡ self.old.tried }
         ensures raw { self.new.raw ≡ self.old.raw }
     {
         read_at(&mut self.flash, &mut self.place, at)

@@ -10,7 +10,7 @@ ghost use Rattle.flash_moves.specs.Paces.{IsBeforeMove, IsCaughtUp, WillKeepPace
 ghost use Rattle.flash_moves.specs.Paces.{KeepsRoom, StandsSo, StaysInArea, failed_since, is_fresh, lead_of};
 ghost use Rattle.flash_moves.specs.Paces.{lost_since, steps_left};
 ghost use Rattle.flash_moves.specs.Places.{FindsFree, IsLog, log_value};
-ghost use Rattle.flash_log.specs.SlotsInTurn.{BeginsBy, FindsNext, IsNextSlot, WillTake};
+ghost use Rattle.flash_log.specs.SlotsInTurn.{BeginsBy, FindsNext, IsNextSlot, SameNext, WillTake};
 ghost use Rattle.flash_area.specs.HeldPages.{HavePages};
 ghost use Rattle.flash_area.specs.Spares.{FindsFurthest, IsSpare, KeepsSectors, KeepsSteps, copies_most};
 ghost use Rattle.flash_log.specs.Renewals.{HasLastMark};
@@ -115,9 +115,9 @@ pub fn find_pages<F: Flash>(flash: &mut F, place: &mut PageMap<F::Table>) -> Res
     ensures stands { (extra : ℕ) → extra ≤ extra_of F.PAGES F.SLOTS F.SECTORS
         → WillKeepPace F.PAGES F.SLOTS F.SECTORS F.sector_start (F.state flash.old).words extra place.old
         → WillKeepPace F.PAGES F.SLOTS F.SECTORS F.sector_start (F.state flash.new).words extra place.new }
-    // No slot is passed over.
-    ensures begins { (n : ℕ) → BeginsBy F.SLOTS (log_value F.PAGES F.SLOTS F.SECTORS (F.state flash.old) place.old) n
-        → BeginsBy F.SLOTS (log_value F.PAGES F.SLOTS F.SECTORS (F.state flash.new) place.new) n }
+    // No slot is passed over, and none is taken back.
+    ensures same_next { SameNext F.SLOTS (log_value F.PAGES F.SLOTS F.SECTORS (F.state flash.old) place.old)
+        (log_value F.PAGES F.SLOTS F.SECTORS (F.state flash.new) place.new) }
     ensures light { Lights (F.state flash.old) (F.state flash.new) result }
 {
     if place.ready {
@@ -318,7 +318,9 @@ pub fn read_at<F: Flash>(
     ensures work { (F.state flash.new).operations ≡ (F.state flash.old).operations }
     ensures erases { (F.state flash.new).erases ≡ (F.state flash.old).erases }
     ensures log { IsLog F.Table.entries F.PAGES F.SLOTS F.SECTORS F.sector_start (F.state flash.new).words place.new }
+    ensures ready { OnOk result (place.new.ready ≡ true) }
     ensures known { place.old.ready ≡ true → place.new ≡ place.old }
+    ensures tried { place.new.tried ≡ place.old.tried }
     ensures found { OnOk result (place.old.ready ≡ false → place.old.tried ≡ 0
         → FindsFree F.SLOTS (F.state flash.old).words (free_slots F.SLOTS place.new)) }
     ensures looks { is_fresh place.old ≡ true → (is_fresh place.new ≡ true)
@@ -331,9 +333,14 @@ pub fn read_at<F: Flash>(
     ensures stands { (extra : ℕ) → extra ≤ extra_of F.PAGES F.SLOTS F.SECTORS
         → WillKeepPace F.PAGES F.SLOTS F.SECTORS F.sector_start (F.state flash.old).words extra place.old
         → WillKeepPace F.PAGES F.SLOTS F.SECTORS F.sector_start (F.state flash.new).words extra place.new }
-    // No slot is passed over.
-    ensures begins { (n : ℕ) → BeginsBy F.SLOTS (log_value F.PAGES F.SLOTS F.SECTORS (F.state flash.old) place.old) n
-        → BeginsBy F.SLOTS (log_value F.PAGES F.SLOTS F.SECTORS (F.state flash.new) place.new) n }
+    // It finds how far the move has come.
+    ensures furthest { place.old.ready ≡ false → place.new.ready ≡ true
+        → F.SLOTS ≤ place.new.next + lead_of F.PAGES F.SECTORS
+        → FindsFurthest F.PAGES F.SLOTS F.SECTORS F.sector_start (F.state flash.old).words place.new.turn place.new.next
+        (extra_of F.PAGES F.SLOTS F.SECTORS) place.new.erased place.new.copied place.new.older }
+    // No slot is passed over, and none is taken back.
+    ensures same_next { SameNext F.SLOTS (log_value F.PAGES F.SLOTS F.SECTORS (F.state flash.old) place.old)
+        (log_value F.PAGES F.SLOTS F.SECTORS (F.state flash.new) place.new) }
     ensures light { Lights (F.state flash.old) (F.state flash.new) result }
 {
     find_pages(flash, place)?;

@@ -1,14 +1,16 @@
 -- Laws of where the next write begins: no slot is passed over but those of tries.
-use Rattle.std.specs.Prelude.{◌≡◌, ◌≤◌, ◌+◌, ◌-◌, ℕ, Bool, true, false, List, if◌then◌else◌}
+use Rattle.std.specs.Prelude.{◌≡◌, ◌≤◌, ◌+◌, ◌-◌, ◌&&◌, ◌||◌, ℕ, Bool, true, false, not, List, if◌then◌else◌}
+use Rattle.std.specs.Prelude.{nat_eq, nat_le}
 use Rattle.std.proofs.Common.{refl, sym, ◌∙◌, ap, subst, arith}
 use Rattle.flash_moves.specs.declared.place.PageMap.{PageMap}
 use Rattle.flash_device.specs.FlashCalls.{FlashState}
 use Rattle.flash_device.specs.FlashLogs.{base_in, turn_of}
 use Rattle.flash_device.specs.PageTables.{AreFree}
-use Rattle.flash_moves.specs.Paces.{KeepsHome, LogState, StaysInArea, free_slots}
-use Rattle.flash_moves.specs.Places.{log_value}
+use Rattle.flash_area.specs.Spares.{copies_most}
+use Rattle.flash_moves.specs.Paces.{KeepsHome, LogState, StaysInArea, free_slots, is_paced, lead_of, steps_left}
+use Rattle.flash_moves.specs.Places.{log_value, state_of}
 use Rattle.flash_moves.specs.laws.Pacing.{free_of}
-use Rattle.flash_log.specs.SlotsInTurn.{BeginsBy, IsNextSlot, TakesInTurn, passed_slots}
+use Rattle.flash_log.specs.SlotsInTurn.{BeginsBy, IsNextSlot, SameNext, TakesInTurn, passed_slots}
 use Rattle.flash_log.specs.laws.TakingTurns.{next_behind, passed_of}
 
 -- it may begin later
@@ -78,12 +80,87 @@ module _ {T : Type 0} (pages slots sectors : ℕ) where
       (subst (λ (t : ℕ). IsNextSlot slots new.words t k) tried
       (subst (λ (b : Bool). IsNextSlot slots new.words (if b then slots - free_slots slots q else q.tried) k) lost is)))
 
-  -- Calls that only read change nothing.
-  pub begins_same : (old new : FlashState) (p : PageMap T) (n : ℕ) → new.words ≡ old.words
-      → BeginsBy slots (log_value pages slots sectors old p) n
-      → BeginsBy slots (log_value pages slots sectors new p) n
-  begins_same old new p n words begins k is = begins k
-      (subst (λ (l : List ℕ). IsNextSlot slots l (passed_slots slots (log_value pages slots sectors old p)) k) words is)
+  -- Calls that only read leave the next slot.
+  pub next_same : (old new : FlashState) (p : PageMap T) → new.words ≡ old.words
+      → SameNext slots (log_value pages slots sectors old p) (log_value pages slots sectors new p)
+  next_same old new p words n =
+      let passed = passed_slots slots (log_value pages slots sectors old p) in (
+        subst (λ (l : List ℕ). IsNextSlot slots l passed n) (sym words),
+        subst (λ (l : List ℕ). IsNextSlot slots l passed n) words,
+      )
+
+  -- So does a search that failed,
+  pub next_lost : (old new : FlashState) (p q : PageMap T) → p.ready ≡ false → q.ready ≡ false
+      → q.tried ≡ p.tried → new.words ≡ old.words
+      → SameNext slots (log_value pages slots sectors old p) (log_value pages slots sectors new q)
+  next_lost old new p q unready lost tried words n =
+      let was : passed_slots slots (log_value pages slots sectors old p) ≡ p.tried =
+      ap (λ (b : Bool). if b then slots - free_slots slots p else p.tried) unready in
+      let is : passed_slots slots (log_value pages slots sectors new q) ≡ q.tried =
+      ap (λ (b : Bool). if b then slots - free_slots slots q else q.tried) lost in
+      let same = was ∙ sym tried ∙ sym is in (
+        λ (next : IsNextSlot slots old.words (passed_slots slots (log_value pages slots sectors old p)) n).
+            subst (λ (l : List ℕ). IsNextSlot slots l (passed_slots slots (log_value pages slots sectors new q)) n)
+            (sym words) (subst (λ (k : ℕ). IsNextSlot slots old.words k n) same next),
+        λ (next : IsNextSlot slots new.words (passed_slots slots (log_value pages slots sectors new q)) n).
+            subst (λ (l : List ℕ). IsNextSlot slots l (passed_slots slots (log_value pages slots sectors old p)) n)
+            words (subst (λ (k : ℕ). IsNextSlot slots new.words k n) (sym same) next),
+      )
+
+  -- which leaves all that the log knows,
+  pub waits_same : (old new : FlashState) (p q : PageMap T) → p.ready ≡ false → q.ready ≡ false
+      → q.tried ≡ p.tried → new.words ≡ old.words
+      → log_value pages slots sectors new q
+      ≡ record (log_value pages slots sectors old p) { flash = state_of pages slots new }
+  unfolding is_paced
+  waits_same old new p q unready lost tried words =
+      ap (λ (b : Bool). known_by b q q.tried new.words) lost
+      ∙ ap (λ (t : ℕ). known_by false q t new.words) tried
+      ∙ ap (λ (l : List ℕ). known_by false p p.tried l) words
+      ∙ sym (ap (λ (b : Bool). known_by b p p.tried old.words) unready)
+    where
+      -- what the log knows, by whether it knows its pages
+      known_by : Bool → PageMap T → ℕ → List ℕ → LogState
+      known_by b x t l = record {
+        flash = state_of pages slots new;
+        paced = b && (nat_le (steps_left pages sectors x + x.next) slots
+            && ((nat_eq (x.copied + x.behind) 0 || nat_le slots (x.next + lead_of pages sectors))
+            && nat_le x.tried x.next));
+        extra = if b then x.behind - copies_most x.copied 0 else 0;
+        ready = b;
+        tried = t;
+        fresh = not b && nat_eq t 0;
+        free = if b then slots - x.next else 0;
+        left = if b then steps_left pages sectors x else 0;
+        raw = l;
+      }
+
+  -- and one that found it.
+  pub next_found : (old new : FlashState) (p q : PageMap T) → p.ready ≡ false → q.ready ≡ true
+      → new.words ≡ old.words → IsNextSlot slots old.words p.tried q.next
+      → SameNext slots (log_value pages slots sectors old p) (log_value pages slots sectors new q)
+  next_found old new p q unready ready words finds n =
+      let was : passed_slots slots (log_value pages slots sectors old p) ≡ p.tried =
+      ap (λ (b : Bool). if b then slots - free_slots slots p else p.tried) unready in
+      let is = passed_of pages slots sectors new q ready finds.free.within in
+      let behind : IsNextSlot slots new.words q.next q.next =
+      subst (λ (l : List ℕ). IsNextSlot slots l q.next q.next) (sym words)
+      (next_behind slots old.words q.next finds.free) in (
+        λ (next : IsNextSlot slots old.words (passed_slots slots (log_value pages slots sectors old p)) n).
+            let here : IsNextSlot slots old.words p.tried n =
+            subst (λ (k : ℕ). IsNextSlot slots old.words k n) was next in
+            let less = here.first q.next finds.free finds.passed in
+            let more = finds.first n here.free here.passed in
+            subst (λ (k : ℕ). IsNextSlot slots new.words (passed_slots slots (log_value pages slots sectors new q)) k)
+            (omega (arith, less, more)) (subst (λ (k : ℕ). IsNextSlot slots new.words k q.next) (sym is) behind),
+        λ (next : IsNextSlot slots new.words (passed_slots slots (log_value pages slots sectors new q)) n).
+            let here : IsNextSlot slots new.words q.next n =
+            subst (λ (k : ℕ). IsNextSlot slots new.words k n) is next in
+            let less = here.first q.next behind.free (omega arith) in
+            let more = here.passed in
+            subst (λ (k : ℕ). IsNextSlot slots old.words (passed_slots slots (log_value pages slots sectors old p)) k)
+            (omega (arith, less, more)) (subst (λ (k : ℕ). IsNextSlot slots old.words k q.next) (sym was) finds),
+      )
 
   -- One that found them found the slot.
   pub begins_found : (s : FlashState) (p q : PageMap T) (n : ℕ)

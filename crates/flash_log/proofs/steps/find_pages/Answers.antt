@@ -8,7 +8,7 @@ use Rattle.flash_moves.specs.Rings.{IsRing}
 use Rattle.flash_area.specs.Spares.{FindsFurthest, IsSpare, KeepsSteps}
 use Rattle.flash_device.specs.laws.Indexing.{free_later}
 use Rattle.flash_moves.specs.laws.Pacing.{free_known, fresh_is, fresh_stands, paced_found, steps_most, tried_within}
-use Rattle.flash_log.specs.laws.Beginning.{begins_at, begins_lost, begins_tried}
+use Rattle.flash_log.specs.laws.Beginning.{next_found, next_lost}
 use Rattle.flash_log.proofs.steps.find_pages.Goals as goal
 
 pub returns-clause-log : goal.returns-clause-log
@@ -301,41 +301,35 @@ returns-clause-is_next g c = λ unready within.
           (cases_lt c.in_ok-first.first tried);
     }
 
-pub returns-then-place-clause-begins : goal.returns-then-place-clause-begins
-returns-then-place-clause-begins g c = λ n begins. begins
+pub returns-then-place-clause-same_next : goal.returns-then-place-clause-same_next
+returns-then-place-clause-same_next g c = λ n. (λ next. next, λ next. next)
 
-pub returns-in_err-turn-clause-begins : goal.returns-in_err-turn-clause-begins
-returns-in_err-turn-clause-begins g c = λ n. begins_lost g.F.Flash.PAGES g.F.Flash.SLOTS g.F.Flash.SECTORS
-    (g.F.Flash.state c.args.flash.now) (g.F.Flash.state c.find_turn.new.flash) c.args.place.now c.args.place.now n
+pub returns-in_err-turn-clause-same_next : goal.returns-in_err-turn-clause-same_next
+returns-in_err-turn-clause-same_next g c = next_lost g.F.Flash.PAGES g.F.Flash.SLOTS g.F.Flash.SECTORS
+    (g.F.Flash.state c.args.flash.now) (g.F.Flash.state c.find_turn.new.flash) c.args.place.now c.args.place.now
     c.if-place.false c.if-place.false refl c.find_turn.ensures.words
 
-pub returns-in_err-first-clause-begins : goal.returns-in_err-first-clause-begins
-returns-in_err-first-clause-begins g c = λ n. begins_lost g.F.Flash.PAGES g.F.Flash.SLOTS g.F.Flash.SECTORS
+pub returns-in_err-first-clause-same_next : goal.returns-in_err-first-clause-same_next
+returns-in_err-first-clause-same_next g c = next_lost g.F.Flash.PAGES g.F.Flash.SLOTS g.F.Flash.SECTORS
     (g.F.Flash.state c.args.flash.now) (g.F.Flash.state c.scan.new.flash) c.args.place.now
-    (record c.args.place.now { table = c.scan.new.table }) n c.if-place.false c.if-place.false refl
+    (record c.args.place.now { table = c.scan.new.table }) c.if-place.false c.if-place.false refl
     (c.scan.ensures.words ∙ c.find_turn.ensures.words)
 
-pub returns-in_err-progress-clause-begins : goal.returns-in_err-progress-clause-begins
-returns-in_err-progress-clause-begins g c = λ n. begins_lost g.F.Flash.PAGES g.F.Flash.SLOTS g.F.Flash.SECTORS
+pub returns-in_err-progress-clause-same_next : goal.returns-in_err-progress-clause-same_next
+returns-in_err-progress-clause-same_next g c = next_lost g.F.Flash.PAGES g.F.Flash.SLOTS g.F.Flash.SECTORS
     (g.F.Flash.state c.args.flash.now) (g.F.Flash.state c.progress_at.new.flash) c.args.place.now
-    (record c.args.place.now { table = c.scan.new.table }) n c.if-place.false c.if-place.false refl
+    (record c.args.place.now { table = c.scan.new.table }) c.if-place.false c.if-place.false refl
     (c.progress_at.ensures.words ∙ c.scan.ensures.words ∙ c.find_turn.ensures.words)
 
-pub returns-clause-begins : goal.returns-clause-begins
-returns-clause-begins g c = λ n begins.
+pub returns-clause-same_next : goal.returns-clause-same_next
+returns-clause-same_next g c =
     let slots = g.F.Flash.SLOTS in
     let pages = g.F.Flash.PAGES in
     let sectors = g.F.Flash.SECTORS in
-    let old = g.F.Flash.state c.args.flash.now in
-    let new = g.F.Flash.state c.progress_at.new.flash in
     let p = c.args.place.now in
-    let same : new.words ≡ old.words = c.progress_at.ensures.words ∙ c.scan.ensures.words ∙ c.find_turn.ensures.words in
-    let is = returns-clause-is_next g c c.if-place.false (tried_within pages slots sectors p c.requires.log.passed) in
-    let most = begins_tried pages slots sectors old p n c.later-next.result c.if-place.false begins is in
-    let free : AreFree new.words (base_in slots (turn_of slots new.words)) c.later-next.result slots =
-    subst (λ (l : List ℕ). AreFree l (base_in slots (turn_of slots l)) c.later-next.result slots) (sym same) is.free in
     let progress = c.in_ok-progress.progress in
-    begins_at pages slots sectors new (record p {
+    next_found pages slots sectors (g.F.Flash.state c.args.flash.now) (g.F.Flash.state c.progress_at.new.flash) p
+    (record p {
       ready = true;
       table = c.scan.new.table;
       turn = c.in_ok-turn.turn;
@@ -344,4 +338,5 @@ returns-clause-begins g c = λ n begins.
       copied = progress.copied;
       behind = progress.behind;
       older = progress.older;
-    }) c.later-next.result n free (λ ready. omega arith) (λ unready. absurd (true≢false unready)) most
+    }) c.if-place.false refl (c.progress_at.ensures.words ∙ c.scan.ensures.words ∙ c.find_turn.ensures.words)
+    (returns-clause-is_next g c c.if-place.false (tried_within pages slots sectors p c.requires.log.passed))

@@ -1,11 +1,18 @@
-use Rattle.std.proofs.Common.{◌≡◌, ◌⊎◌, ◌<◌, ◌≤◌, ◌∙◌, ℕ, true, false, ap, subst, arith}
+use Rattle.std.proofs.Common.{◌≡◌, ◌⊎◌, ◌<◌, ◌≤◌, ◌+◌, ◌-◌, ◌∙◌, ℕ, List, true, false, ap, subst, sym, arith, ⊎_elim}
+use Rattle.std.proofs.Common.{true≢false}
+use Rattle.std.proofs.lemmas.Bool.{cases_Bool}
 use Rattle.std.proofs.lemmas.Result.{on_ok_weaker}
 use Rattle.flash_moves.specs.declared.place.PageMap.{PageMap}
-use Rattle.flash_moves.specs.Places.{FindsFree, log_value}
-use Rattle.flash_log.specs.SlotsInTurn.{BeginsBy}
+use Rattle.flash_moves.specs.Places.{FindsFree, log_value, state_of}
+use Rattle.flash_device.specs.FlashLogs.{turn_of}
+use Rattle.flash_log.specs.SlotsInTurn.{SameNext}
+use Rattle.flash_log.specs.StepsLeft.{HasFewestLeft}
+use Rattle.flash_log.specs.laws.Beginning.{waits_same}
+use Rattle.flash_log.specs.laws.Finding.{fewest_found}
 use Rattle.flash_moves.specs.Paces.{IsInPaceFrom, KeepsPace, LogState, StandsInPace, WillKeepPace, free_slots, is_fresh}
-use Rattle.flash_moves.specs.Paces.{extra_of, extra_slots, is_paced, lead_of}
-use Rattle.flash_moves.specs.laws.Pacing.{free_same, fresh_is, is_paced_by, paced_is, stands_view, view_stands}
+use Rattle.flash_moves.specs.Paces.{extra_of, extra_slots, is_paced, known_steps, lead_of}
+use Rattle.flash_moves.specs.laws.Pacing.{free_of, free_same, fresh_is, is_paced_by, paced_is}
+use Rattle.flash_moves.specs.laws.Pacing.{stands_view, view_stands}
 use Rattle.flash_log.proofs.flash_log.FlashLog.read.Goals as goal
 
 pub returns-clause-paced : goal.returns-clause-paced
@@ -97,9 +104,58 @@ returns-clause-stands g c = λ extra fits.
     (λ stands. view_stands pages slots sectors extra start after place
     (c.read_at.ensures.stands extra fits (stands_view pages slots sectors extra start m c.self.inside.place stands)))
 
-pub returns-clause-begins : goal.returns-clause-begins
-returns-clause-begins g c = λ n.
+pub returns-clause-fewest : goal.returns-clause-fewest
+returns-clause-fewest g c =
+    let pages = g.F.Flash.PAGES in
+    let slots = g.F.Flash.SLOTS in
+    let sectors = g.F.Flash.SECTORS in
+    let start = g.F.Flash.sector_start in
+    let m = (g.F.Flash.state c.self.inside.flash).words in
+    let place = c.read_at.new.place in
+    subst (λ (l : LogState). l.ready ≡ false → place.ready ≡ true → free_slots slots place ≤ lead_of pages sectors
+    → HasFewestLeft pages slots sectors start l.raw (slots - free_slots slots place) (known_steps pages sectors place))
+    c.self.view_is
+    (λ unready ready few.
+    let at = c.read_at.ensures.log.known ready in
+    let within = at.free.within in
+    let free = free_of pages slots sectors place ready in
+    let due : slots ≤ place.next + lead_of pages sectors = omega (arith, few, free) in
+    fewest_found pages slots sectors start m place ready (at.turn ∙ ap (turn_of slots) c.read_at.ensures.words) within
+    (c.read_at.ensures.furthest unready ready due))
+
+pub returns-clause-known : goal.returns-clause-known
+returns-clause-known g c =
+    let slots = g.F.Flash.SLOTS in
+    let pages = g.F.Flash.PAGES in
+    let sectors = g.F.Flash.SECTORS in
+    let new = g.F.Flash.state c.read_at.new.flash in
+    let after = log_value pages slots sectors new c.read_at.new.place in
+    subst (λ (l : LogState). l.ready ≡ true → after ≡ record l { flash = state_of pages slots new }) c.self.view_is
+    (λ ready. ap (λ (p : PageMap _). log_value pages slots sectors new p) (c.read_at.ensures.known ready)
+    ∙ ap (λ (m : List ℕ). record (log_value pages slots sectors new c.self.inside.place) { raw = m })
+    c.read_at.ensures.words)
+
+pub returns-clause-waits : goal.returns-clause-waits
+returns-clause-waits g c =
+    let slots = g.F.Flash.SLOTS in
+    let pages = g.F.Flash.PAGES in
+    let sectors = g.F.Flash.SECTORS in
+    let old = g.F.Flash.state c.self.inside.flash in
+    let new = g.F.Flash.state c.read_at.new.flash in
+    let p = c.self.inside.place in
+    let q = c.read_at.new.place in
+    subst (λ (l : LogState). q.ready ≡ false → log_value pages slots sectors new q
+    ≡ record l { flash = state_of pages slots new }) c.self.view_is
+    (λ lost. ⊎_elim
+    (λ (ready : p.ready ≡ true). absurd (true≢false (sym ready
+    ∙ sym (ap (λ (x : PageMap _). x.ready) (c.read_at.ensures.known ready)) ∙ lost)))
+    (λ (unready : p.ready ≡ false). waits_same pages slots sectors old new p q unready lost c.read_at.ensures.tried
+    c.read_at.ensures.words)
+    (cases_Bool p.ready))
+
+pub returns-clause-same_next : goal.returns-clause-same_next
+returns-clause-same_next g c =
     let slots = g.F.Flash.SLOTS in
     let after = log_value g.F.Flash.PAGES slots g.F.Flash.SECTORS (g.F.Flash.state c.read_at.new.flash)
     c.read_at.new.place in
-    subst (λ (l : LogState). BeginsBy slots l n → BeginsBy slots after n) c.self.view_is (c.read_at.ensures.begins n)
+    subst (λ (l : LogState). SameNext slots l after) c.self.view_is c.read_at.ensures.same_next
