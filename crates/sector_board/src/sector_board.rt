@@ -40,7 +40,10 @@ impl<F: SectorFlash> SectorBoard<F> {
     ghost use Rattle.nvm_board.specs.Facts.{Answered, IsLostRightly, IsWorn, IsWornOut, raised};
     ghost use Rattle.flash_board.specs.FlashFacts.{made_of};
     ghost use Rattle.flash_device.specs.FlashCalls.{Costs};
+    ghost use Rattle.flash_device.specs.FlashLogs.{base_in, turn_of};
+    ghost use Rattle.flash_device.specs.PageTables.{AreFree};
     ghost use Rattle.flash_log.specs.Renewals.{HoldsOnlyPages};
+    ghost use Rattle.sector_log.specs.SectorLogs.{ShowsSteps};
     ghost use Rattle.sector_board.specs.SectorFacts.{sector_facts, sector_state};
 
     /// The board of a log that has power. Its counts are 0.
@@ -72,6 +75,22 @@ impl<F: SectorFlash> SectorBoard<F> {
     {
         let SectorBoard { log, .. } = self;
         log
+    }
+
+    /// Proves that the free slots that the log knows are blank and untried, that it has one for each step that is left,
+    /// and that the flash shows how far the move has come.
+    pub fn has_free(&self)
+        ensures blank { 0 < (sector_state self.now).free → AreFree (sector_state self.now).raw
+            (base_in F.SLOTS (turn_of F.SLOTS (sector_state self.now).raw)) (F.SLOTS - (sector_state self.now).free)
+            F.SLOTS }
+        ensures passed { (sector_state self.now).tried + (sector_state self.now).free ≤ F.SLOTS }
+        ensures in_step { (sector_state self.now).steps ≤ (sector_state self.now).free }
+        ensures shows { 0 < (sector_state self.now).free
+            → ShowsSteps F.PAGES F.SLOTS F.SECTORS F.sector_start (sector_state self.now) }
+        ensures fresh { (sector_state self.now).fresh ≡ true
+            → ((sector_state self.now).free ≡ 0) × ((sector_state self.now).tried ≡ 0) }
+    {
+        self.log.has_free();
     }
 
     /// Leaves nothing in the flash but the pages as they are: no old words of a page, in no slot. It changes no word of
@@ -175,11 +194,12 @@ impl<F: SectorFlash> Board for SectorBoard<F> {
     ghost use Rattle.flash_device.specs.FlashCalls.{Costs};
     ghost use Rattle.flash_device.specs.FlashLogs.{base_in, find, turn_of};
     ghost use Rattle.flash_moves.specs.Places.{FindsFree};
+    ghost use Rattle.flash_log.specs.SlotsInTurn.{IsNextSlot};
     ghost use Rattle.nvm_board.specs.BoardCalls.{Compares, FitsPage, TellsWord, Writes};
     ghost use Rattle.nvm_board.specs.Facts.{address};
     ghost use Rattle.sector_board.specs.SectorFacts.{sector_facts, sector_state};
     ghost use Rattle.sector_board.specs.laws.SectorBoards.{sector_is_board};
-    ghost use Rattle.sector_log.specs.SectorLogs.{GivesUpBehind, KeepsBeside};
+    ghost use Rattle.sector_log.specs.SectorLogs.{FindsSteps, GivesUpBehind, KeepsBeside};
     ghost use Rattle.sector_moves.specs.SectorSpares.{HasFewestSteps, sector_lead, spare_slot};
     ghost use Rattle.flash_moves.specs.declared.ahead.TheConstants.{TRIES};
 
@@ -197,19 +217,32 @@ impl<F: SectorFlash> Board for SectorBoard<F> {
         ensures work { (sector_state self.new).flash.operations ≡ (sector_state self.old).flash.operations }
         ensures erases { (sector_state self.new).flash.erases ≡ (sector_state self.old).flash.erases }
         ensures free { (sector_state self.old).free ≤ (sector_state self.new).free }
-        // A log that knows its pages stays as it is.
+        ensures raw { (sector_state self.new).raw ≡ (sector_state self.old).raw }
+        // A log stays as it is if it knew its pages, or still has to find them.
         ensures known { 0 < (sector_state self.old).free
             → sector_state self.new ≡ record (sector_state self.old) { flash = (sector_state self.new).flash } }
-        // Behind the read it knows them, and has a free slot for each step that is left.
+        ensures waits { (sector_state self.new).free ≡ 0
+            → sector_state self.new ≡ record (sector_state self.old) { flash = (sector_state self.new).flash } }
+        // Behind Ok it knows them, and has a free slot for each step that is left.
         ensures in_step { OnOk result ((0 < (sector_state self.new).free)
             × ((sector_state self.new).steps ≤ (sector_state self.new).free)) }
-        // If it had to look, they are no more than by any progress that the flash shows with nine slots over at most.
-        ensures fewest { OnOk result ((sector_state self.old).free ≡ 0
+        // If it had to look, no slot is passed over, and until power-on none is taken again.
+        ensures tried { (sector_state self.new).tried ≡ (sector_state self.old).tried }
+        ensures next { (sector_state self.old).free ≡ 0 → 0 < (sector_state self.new).free
+            → IsNextSlot F.SLOTS (sector_state self.old).raw (sector_state self.old).tried
+            (F.SLOTS - (sector_state self.new).free) }
+        // Then no more steps are left than by any progress that the flash shows with nine slots over at most.
+        ensures fewest { (sector_state self.old).free ≡ 0 → 0 < (sector_state self.new).free
             → HasFewestSteps F.PAGES F.SLOTS F.SECTORS F.sector_start (sector_state self.old).raw
-            (turn_of F.SLOTS (sector_state self.old).raw) (sector_state self.new).free (sector_state self.new).steps) }
+            (turn_of F.SLOTS (sector_state self.old).raw) (sector_state self.new).free (sector_state self.new).steps }
+        ensures finds { (sector_state self.old).free ≡ 0 → 0 < (sector_state self.new).free
+            → FindsSteps F.PAGES F.SLOTS F.SECTORS F.sector_start (sector_state self.new) }
         // After the first read behind a power-on, the log knows all free slots.
         ensures found { OnOk result ((sector_state self.old).fresh ≡ true
             → FindsFree F.SLOTS (sector_state self.old).raw (sector_state self.new).free) }
+        // If it fails before it knows them, the next read looks for them.
+        ensures looks { (sector_state self.old).fresh ≡ true → ((sector_state self.new).fresh ≡ true)
+            ⊎ FindsFree F.SLOTS (sector_state self.old).raw (sector_state self.new).free }
     {
         if self.dark {
             return Err(DeviceErr::PowerLost);
@@ -269,6 +302,9 @@ impl<F: SectorFlash> Board for SectorBoard<F> {
         ensures last { OnOk result (find (sector_state self.new).raw
             (base_in F.SLOTS (turn_of F.SLOTS (sector_state self.new).raw)) F.SLOTS page
             ≡ F.SLOTS - (sector_state self.new).free) }
+        // Only the copy of its page may be older.
+        ensures older { OnOk result (((sector_state self.new).older ≡ 0)
+            ⊎ ((sector_state self.new).older ≡ page + 1)) }
         // A move leaves all slots free but those of the sectors that its steps filled, and that of the record.
         ensures regains { OnOk result ((sector_state self.new).flash.faults ≡ (sector_state self.old).flash.faults
             → 0 < (sector_state self.old).free → (sector_state self.old).free < (sector_state self.new).free
@@ -340,6 +376,7 @@ impl<F: FlashSocket + SectorFlash> Socket for SectorBoard<F> {
         ensures log { OnOk result (sector_state self.new ≡ record (sector_state self.old) {
           flash = record (sector_state self.old).flash { dark = false };
           fresh = true;
+          tried = 0;
           free = 0;
           steps = 0;
           older = 0;

@@ -5,14 +5,18 @@ use Rattle.flash_moves.specs.declared.ahead.TheConstants.{TRIES}
 use Rattle.flash_moves.specs.declared.place.PageMap.{PageMap}
 use Rattle.flash_moves.specs.Paces.{free_slots, is_fresh}
 use Rattle.flash_moves.specs.Places.{state_of}
+use Rattle.flash_device.specs.FlashLogs.{turn_of}
 use Rattle.sector_moves.specs.SectorPlaces.{place_steps}
+use Rattle.sector_moves.specs.SectorSpares.{HasOlderCopy, IsSectorSpare, sector_steps}
 
 -- All that contracts know of a log: its flash, with the words of the board in place of its own, whether it has yet to
--- look for its pages, and has tried no slot, the free slots of the area in use that it knows, the steps of the move
--- that it knows to be left, the page whose copy may be older, by its number and 1, or 0, and its own words.
+-- look for its pages, and has tried no slot, up to which slot writes were tried, the free slots of the area in use that
+-- it knows, the steps of the move that it knows to be left, the page whose copy may be older, by its number and 1, or
+-- 0, and its own words.
 pub record SectorLogState : Type 0 where
   pub flash : FlashState
   pub fresh : Bool
+  pub tried : ℕ
   pub free : ℕ
   pub steps : ℕ
   pub older : ℕ
@@ -31,6 +35,7 @@ abbrev pub sector_log_value : {T : Type 0} → ℕ → ℕ → ℕ → FlashStat
 sector_log_value pages slots sectors s p = record {
   flash = state_of pages slots s;
   fresh = is_fresh p;
+  tried = p.tried;
   free = free_slots slots p;
   steps = known_sector_steps pages sectors p;
   older = known_older p;
@@ -42,11 +47,24 @@ abbrev pub new_sector_log : ℕ → ℕ → FlashState → SectorLogState
 new_sector_log pages slots s = record {
   flash = state_of pages slots s;
   fresh = true;
+  tried = 0;
   free = 0;
   steps = 0;
   older = 0;
   raw = s.words;
 }
+
+-- The flash shows a progress of the move that leaves as many steps, and the same copy that may be older.
+pub record ShowsSteps (pages slots sectors : ℕ) (start : ℕ → ℕ) (l : SectorLogState) : Type 0 where
+  pub erased : ℕ
+  pub copied : ℕ
+  pub spare : IsSectorSpare pages slots sectors start l.raw (turn_of slots l.raw) erased copied l.older
+  pub steps : l.steps ≡ sector_steps pages sectors (turn_of slots l.raw) erased copied
+
+-- What a search finds: the flash shows it, and only a copy that differs may be older.
+pub record FindsSteps (pages slots sectors : ℕ) (start : ℕ → ℕ) (l : SectorLogState) : Type 0 where
+  pub shows : ShowsSteps pages slots sectors start l
+  pub older : HasOlderCopy slots sectors start l.raw (turn_of slots l.raw) shows.copied l.older
 
 -- A write stops at its step: the copy of another page may be older, and the step that copies it again failed. No step
 -- is taken, and no slot is passed over.

@@ -7,7 +7,7 @@ ghost use Rattle.flash_device.specs.FlashLogs.{words_of};
 ghost use Rattle.flash_moves.specs.Places.{FindsFree};
 ghost use Rattle.flash_moves.specs.Rings.{IsRing};
 ghost use Rattle.sector_moves.specs.SectorPlaces.{KeepsStep, place_steps};
-ghost use Rattle.sector_moves.specs.SectorSpares.{HasRoomForSteps, last_sectors};
+ghost use Rattle.sector_moves.specs.SectorSpares.{HasFewestSteps, HasOlderCopy, HasRoomForSteps, last_sectors};
 ghost use Rattle.sector_log.specs.SectorOpenings.{IsNotInStep};
 
 use flash_device::{Flash, PageTable};
@@ -67,6 +67,11 @@ pub fn find_log<F: SectorFlash>(
         × KeepsStep F.Table.entries F.PAGES F.SLOTS F.SECTORS F.sector_start (F.state flash.old).words place.new)) }
     ensures free { IfOk result (λ o. IfNone o (FindsFree F.SLOTS (F.state flash.old).words
         (F.SLOTS - place.new.next))) }
+    ensures fewest { IfOk result (λ o. IfNone o (HasFewestSteps F.PAGES F.SLOTS F.SECTORS F.sector_start
+        (F.state flash.old).words place.new.turn (F.SLOTS - place.new.next)
+        (place_steps F.PAGES F.SECTORS place.new))) }
+    ensures older { IfOk result (λ o. IfNone o (HasOlderCopy F.SLOTS F.SECTORS F.sector_start
+        (F.state flash.old).words place.new.turn place.new.copied place.new.older)) }
     ensures none { IfOk result (λ o. IfSome o (λ why. IsNotInStep F.PAGES F.SLOTS F.SECTORS F.sector_start
         (F.state flash.old).words why)) }
     ensures words { (F.state flash.new).words ≡ (F.state flash.old).words }

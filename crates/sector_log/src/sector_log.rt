@@ -39,10 +39,13 @@ impl<F: SectorFlash> SectorLog<F> {
     ghost use Rattle.flash_device.specs.FlashCalls.{StaysLit};
     ghost use Rattle.flash_device.specs.FlashBlocks.{steps_of};
     ghost use Rattle.flash_device.specs.FlashLogs.{base_in, find, turn_of, words_of};
+    ghost use Rattle.flash_device.specs.PageTables.{AreFree};
     ghost use Rattle.flash_moves.specs.Places.{FindsFree, state_of};
     ghost use Rattle.flash_log.specs.Renewals.{HoldsOnlyPages};
+    ghost use Rattle.flash_log.specs.SlotsInTurn.{IsNextSlot};
     ghost use Rattle.flash_moves.specs.Rings.{IsRing};
-    ghost use Rattle.sector_log.specs.SectorLogs.{GivesUpBehind, KeepsBeside, new_sector_log};
+    ghost use Rattle.sector_log.specs.SectorLogs.{FindsSteps, GivesUpBehind, KeepsBeside, ShowsSteps};
+    ghost use Rattle.sector_log.specs.SectorLogs.{new_sector_log};
     ghost use Rattle.sector_log.specs.SectorOpenings.{SectorOpenStopsBy};
     ghost use Rattle.sector_moves.specs.SectorSpares.{HasFewestSteps, HasRoomForSteps, sector_lead};
     ghost use Rattle.sector_moves.specs.SectorSpares.{spare_slot};
@@ -69,6 +72,11 @@ impl<F: SectorFlash> SectorLog<F> {
         ensures raw { IfOk result (λ l. l.raw ≡ (F.state flash).words) }
         // It knows all free slots.
         ensures free { IfOk result (λ l. FindsFree F.SLOTS (F.state flash).words l.free) }
+        // No more steps are left than by any progress that the flash shows, and that leaves at most nine slots over.
+        ensures fewest { IfOk result (λ l. HasFewestSteps F.PAGES F.SLOTS F.SECTORS F.sector_start
+            (F.state flash).words (turn_of F.SLOTS (F.state flash).words) l.free l.steps) }
+        ensures finds { IfOk result (λ l. FindsSteps F.PAGES F.SLOTS F.SECTORS F.sector_start l) }
+        ensures tried { IfOk result (λ l. l.tried ≡ 0) }
         ensures lit { IfOk result (λ l. StaysLit (F.state flash) l.flash) }
         ensures has_log { IfOk result (λ _. IsRing F.SLOTS (F.state flash).words
             × HasRoomForSteps F.PAGES F.SLOTS F.SECTORS F.sector_start (F.state flash).words 0) }
@@ -112,6 +120,19 @@ impl<F: SectorFlash> SectorLog<F> {
         let _ = &self.flash;
     }
 
+    /// Proves that the free slots that the log knows are blank and untried, that it has one for each step that is left,
+    /// and that the flash shows how far the move has come.
+    pub fn has_free(&self)
+        ensures blank { 0 < self.now.free → AreFree self.now.raw (base_in F.SLOTS (turn_of F.SLOTS self.now.raw))
+            (F.SLOTS - self.now.free) F.SLOTS }
+        ensures passed { self.now.tried + self.now.free ≤ F.SLOTS }
+        ensures in_step { self.now.steps ≤ self.now.free }
+        ensures shows { 0 < self.now.free → ShowsSteps F.PAGES F.SLOTS F.SECTORS F.sector_start self.now }
+        ensures fresh { self.now.fresh ≡ true → (self.now.free ≡ 0) × (self.now.tried ≡ 0) }
+    {
+        let _ = &self.flash;
+    }
+
     /// Reads a word.
     pub fn read(&mut self, at: u16) -> Result<u32, DeviceErr>
         requires lit { self.old.flash.dark ≡ false }
@@ -123,13 +144,20 @@ impl<F: SectorFlash> SectorLog<F> {
         ensures light { Lights self.old.flash self.new.flash result }
         ensures raw { self.new.raw ≡ self.old.raw }
         ensures free { self.old.free ≤ self.new.free }
-        // A log that knows its pages stays as it is.
+        // A log stays as it is if it knew its pages, or still has to find them.
         ensures known { 0 < self.old.free → self.new ≡ record self.old { flash = self.new.flash } }
-        // Behind the read it knows them, and has a free slot for each step that is left.
+        ensures waits { self.new.free ≡ 0 → self.new ≡ record self.old { flash = self.new.flash } }
+        // Behind Ok it knows them, and has a free slot for each step that is left.
         ensures in_step { OnOk result ((0 < self.new.free) × (self.new.steps ≤ self.new.free)) }
-        // If it had to look, they are no more than by any progress that the flash shows with nine slots over at most.
-        ensures fewest { OnOk result (self.old.free ≡ 0 → HasFewestSteps F.PAGES F.SLOTS F.SECTORS F.sector_start
-            self.old.raw (turn_of F.SLOTS self.old.raw) self.new.free self.new.steps) }
+        // If it had to look, no slot is passed over, and until power-on none is taken again.
+        ensures tried { self.new.tried ≡ self.old.tried }
+        ensures next { self.old.free ≡ 0 → 0 < self.new.free
+            → IsNextSlot F.SLOTS self.old.raw self.old.tried (F.SLOTS - self.new.free) }
+        // Then no more steps are left than by any progress that the flash shows with nine slots over at most.
+        ensures fewest { self.old.free ≡ 0 → 0 < self.new.free → HasFewestSteps F.PAGES F.SLOTS F.SECTORS
+            F.sector_start self.old.raw (turn_of F.SLOTS self.old.raw) self.new.free self.new.steps }
+        ensures finds { self.old.free ≡ 0 → 0 < self.new.free
+            → FindsSteps F.PAGES F.SLOTS F.SECTORS F.sector_start self.new }
         // After the first read behind a power-on, the log knows all free slots.
         ensures found { OnOk result (self.old.fresh ≡ true → FindsFree F.SLOTS self.old.raw self.new.free) }
         // If it fails before it knows them, the next read looks for them.
@@ -176,6 +204,8 @@ impl<F: SectorFlash> SectorLog<F> {
         // The record is in the last slot that isn't free.
         ensures last { OnOk result (find self.new.raw (base_in F.SLOTS (turn_of F.SLOTS self.new.raw)) F.SLOTS page
             ≡ F.SLOTS - self.new.free) }
+        // Only the copy of its page may be older.
+        ensures older { OnOk result ((self.new.older ≡ 0) ⊎ (self.new.older ≡ page + 1)) }
         // A move leaves all slots free but those of the sectors that its steps filled, and that of the record.
         ensures regains { OnOk result (self.new.flash.faults ≡ self.old.flash.faults
             → 0 < self.old.free → self.old.free < self.new.free
@@ -206,6 +236,7 @@ impl<F: FlashSocket + SectorFlash> SectorLog<F> {
         ensures { self.new ≡ record self.old {
           flash = record self.old.flash { dark = false };
           fresh = true;
+          tried = 0;
           free = 0;
           steps = 0;
           older = 0;

@@ -9,11 +9,11 @@ ghost use Rattle.flash_device.specs.FlashLogs.{base_in, find, turn_of, words_of}
 ghost use Rattle.flash_moves.specs.Paces.{free_slots, is_fresh};
 ghost use Rattle.flash_moves.specs.Places.{FindsFree};
 ghost use Rattle.flash_moves.specs.declared.ahead.TheConstants.{TRIES};
-ghost use Rattle.sector_moves.specs.SectorPlaces.{IsSectorLog, StaysAtStep, place_steps};
-ghost use Rattle.sector_moves.specs.SectorSpares.{HasFewestSteps, last_sectors, sector_lead};
+ghost use Rattle.sector_moves.specs.SectorPlaces.{IsFirstFrom, IsSectorLog, StaysAtStep, place_steps};
+ghost use Rattle.sector_moves.specs.SectorSpares.{HasFewestSteps, HasOlderCopy, last_sectors, sector_lead};
 ghost use Rattle.sector_moves.specs.SectorSpares.{spare_slot as spare_slot_of};
-ghost use Rattle.sector_log.specs.SectorLogs.{HasBeside, GivesUpBehind, KeepsBeside, StaysInStep, known_sector_steps};
-ghost use Rattle.sector_log.specs.SectorLogs.{sector_log_value};
+ghost use Rattle.sector_log.specs.SectorLogs.{HasBeside, GivesUpBehind, KeepsBeside, StaysInStep, known_older};
+ghost use Rattle.sector_log.specs.SectorLogs.{known_sector_steps, sector_log_value};
 
 use flash_area::{home, older_page, read_page_word};
 use flash_device::{Flash, PageTable};
@@ -39,11 +39,16 @@ pub fn read_at<F: SectorFlash>(
         place.new }
     ensures ready { OnOk result (place.new.ready ≡ true) }
     ensures known { place.old.ready ≡ true → place.new ≡ place.old }
+    ensures tried { place.new.tried ≡ place.old.tried }
+    ensures first { place.old.ready ≡ false → place.new.ready ≡ true → IsFirstFrom F.SLOTS (F.state flash.old).words
+        (base_in F.SLOTS place.new.turn) place.old.tried place.new.next }
     ensures found { OnOk result (is_fresh place.old ≡ true
         → FindsFree F.SLOTS (F.state flash.old).words (free_slots F.SLOTS place.new)) }
-    ensures fewest { OnOk result (place.old.ready ≡ false → HasFewestSteps F.PAGES F.SLOTS F.SECTORS F.sector_start
-        (F.state flash.old).words place.new.turn (F.SLOTS - place.new.next)
-        (place_steps F.PAGES F.SECTORS place.new)) }
+    ensures fewest { place.old.ready ≡ false → place.new.ready ≡ true → HasFewestSteps F.PAGES F.SLOTS F.SECTORS
+        F.sector_start (F.state flash.old).words place.new.turn (F.SLOTS - place.new.next)
+        (place_steps F.PAGES F.SECTORS place.new) }
+    ensures older { place.old.ready ≡ false → place.new.ready ≡ true → HasOlderCopy F.SLOTS F.SECTORS F.sector_start
+        (F.state flash.old).words place.new.turn place.new.copied place.new.older }
     ensures looks { is_fresh place.old ≡ true → (is_fresh place.new ≡ true)
         ⊎ FindsFree F.SLOTS (F.state flash.old).words (free_slots F.SLOTS place.new) }
     ensures light { Lights (F.state flash.old) (F.state flash.new) result }
@@ -254,6 +259,8 @@ pub fn write_at<F: SectorFlash>(
     ensures last { OnOk result (find (F.state flash.new).words
         (base_in F.SLOTS (turn_of F.SLOTS (F.state flash.new).words)) F.SLOTS page
         ≡ F.SLOTS - free_slots F.SLOTS place.new) }
+    // Only the copy of its page may be older.
+    ensures older { OnOk result ((known_older place.new ≡ 0) ⊎ (known_older place.new ≡ page + 1)) }
     // A write behind which more slots are free than before has ended a move.
     ensures regains { OnOk result ((F.state flash.new).faults ≡ (F.state flash.old).faults
         → 0 < free_slots F.SLOTS place.old → free_slots F.SLOTS place.old < free_slots F.SLOTS place.new

@@ -20,6 +20,10 @@ pub record IsSectorPlace {T : Type 0} (entries : T → List ℕ) (pages slots se
   pub spare : IsSectorSpare pages slots sectors start m p.turn p.erased p.copied p.older
   pub goes_on : 0 < p.copied → slots ≤ p.next + sector_lead sectors
 
+-- Of the slots from one on, none that is free with all behind it lies before this slot.
+abbrev pub IsFirstFrom : ℕ → List ℕ → ℕ → ℕ → ℕ → Type 0
+IsFirstFrom slots m base from next = (s : ℕ) → AreFree m base s slots → from ≤ s → next ≤ s
+
 -- The place is that of the flash, and the area in use has a free slot for each step that is left.
 pub record KeepsStep {T : Type 0} (entries : T → List ℕ) (pages slots sectors : ℕ) (start : ℕ → ℕ) (m : List ℕ)
     (p : PageMap T) : Type 0 where

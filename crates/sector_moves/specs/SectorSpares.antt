@@ -105,6 +105,13 @@ pub record PutsPage (slots : ℕ) (m : List ℕ) (home base below page : ℕ) (a
 pub record ReadsAsCopy (slots : ℕ) (m : List ℕ) (home base below page : ℕ) : Type 0 where
   pub each : (k : ℕ) → k < 16 → page_word m base below page k ≡ page_word m home slots page k
 
+-- The copy of one page, by its number and 1, differs from the page, where so many steps have copied pages. 0 stands for
+-- no page.
+abbrev pub HasOlderCopy : ℕ → ℕ → (ℕ → ℕ) → List ℕ → ℕ → ℕ → ℕ → Type 0
+HasOlderCopy slots sectors start m turn copied older = older ≢ 0
+    → ¬ ReadsAsCopy slots m (base_in slots turn) (spare_in slots turn)
+    (spare_slots slots sectors start turn copied) (older - 1)
+
 -- All steps have copied pages to the other area, and it is free behind them.
 pub record HasMovedSteps (pages slots sectors : ℕ) (start : ℕ → ℕ) (m : List ℕ) (turn : ℕ) : Type 0 where
   pub copies : HasStepCopies pages slots sectors start m turn (steps_of pages) 0

@@ -6,9 +6,9 @@ ghost use Rattle.flash_device.specs.PageTables.{IsPageTable};
 ghost use Rattle.flash_moves.specs.Paces.{free_slots, is_fresh};
 ghost use Rattle.flash_moves.specs.Places.{FindsFree};
 ghost use Rattle.flash_moves.specs.declared.ahead.TheConstants.{TRIES};
-ghost use Rattle.sector_moves.specs.SectorPlaces.{IsSectorLog, IsSectorPlace, KeepsStep, place_steps};
-ghost use Rattle.sector_moves.specs.SectorSpares.{HasFewestSteps, HasRoomForSteps, IsSectorSpare, sector_lead};
-ghost use Rattle.sector_moves.specs.SectorSpares.{sector_steps};
+ghost use Rattle.sector_moves.specs.SectorPlaces.{IsFirstFrom, IsSectorLog, IsSectorPlace, KeepsStep, place_steps};
+ghost use Rattle.sector_moves.specs.SectorSpares.{HasFewestSteps, HasOlderCopy, HasRoomForSteps, IsSectorSpare};
+ghost use Rattle.sector_moves.specs.SectorSpares.{sector_lead, sector_steps};
 
 use crate::pace::lead;
 use crate::progress::{StepsTaken, find_steps};
@@ -32,6 +32,8 @@ fn steps_at<F: SectorFlash>(
     requires next { next ≤ F.SLOTS }
     ensures spare { IfOk result (λ r. IsSectorSpare F.PAGES F.SLOTS F.SECTORS F.sector_start
         (F.state flash.old).words turn r.erased r.copied r.older) }
+    ensures older { IfOk result (λ r. HasOlderCopy F.SLOTS F.SECTORS F.sector_start (F.state flash.old).words turn
+        r.copied r.older) }
     ensures idle { IfOk result (λ r. 0 < r.copied → F.SLOTS ≤ next + sector_lead F.SECTORS) }
     ensures room { IfOk result (λ r. (e c o : ℕ) → IsSectorSpare F.PAGES F.SLOTS F.SECTORS F.sector_start
         (F.state flash.old).words turn e c o → sector_steps F.PAGES F.SECTORS turn e c + next ≤ F.SLOTS
@@ -66,6 +68,9 @@ pub fn find_place<F: SectorFlash>(
     ensures same { (place.new.ready ≡ place.old.ready) × (place.new.tried ≡ place.old.tried) }
     ensures place { OnOk result (IsSectorPlace F.Table.entries F.PAGES F.SLOTS F.SECTORS F.sector_start
         (F.state flash.old).words place.new) }
+    // Only a copy that differs may be older.
+    ensures older { OnOk result (HasOlderCopy F.SLOTS F.SECTORS F.sector_start (F.state flash.old).words place.new.turn
+        place.new.copied place.new.older) }
     // If any progress that the flash shows fits, what is found does.
     ensures keeps { OnOk result (HasRoomForSteps F.PAGES F.SLOTS F.SECTORS F.sector_start (F.state flash.old).words
         place.old.tried → KeepsStep F.Table.entries F.PAGES F.SLOTS F.SECTORS F.sector_start
@@ -75,6 +80,9 @@ pub fn find_place<F: SectorFlash>(
     // If none was tried, all free slots are found.
     ensures found { OnOk result (place.old.tried ≡ 0
         → FindsFree F.SLOTS (F.state flash.old).words (F.SLOTS - place.new.next)) }
+    // No slot is passed over but those that were tried.
+    ensures first { OnOk result (IsFirstFrom F.SLOTS (F.state flash.old).words (base_in F.SLOTS place.new.turn)
+        place.old.tried place.new.next) }
     ensures light { Lights (F.state flash.old) (F.state flash.new) result }
 {
     let turn = find_turn(flash)?;
@@ -109,7 +117,12 @@ pub fn find_pages<F: SectorFlash>(
     ensures fewest { OnOk result (place.old.ready ≡ false → HasFewestSteps F.PAGES F.SLOTS F.SECTORS F.sector_start
         (F.state flash.old).words place.new.turn (F.SLOTS - place.new.next)
         (place_steps F.PAGES F.SECTORS place.new)) }
-    ensures unready { OnErr result (is_fresh place.old ≡ true → is_fresh place.new ≡ true) }
+    ensures older { OnOk result (place.old.ready ≡ false → HasOlderCopy F.SLOTS F.SECTORS F.sector_start
+        (F.state flash.old).words place.new.turn place.new.copied place.new.older) }
+    ensures first { OnOk result (place.old.ready ≡ false → IsFirstFrom F.SLOTS (F.state flash.old).words
+        (base_in F.SLOTS place.new.turn) place.old.tried place.new.next) }
+    ensures unready { OnErr result (place.new.ready ≡ false) }
+    ensures tried { place.new.tried ≡ place.old.tried }
     ensures light { Lights (F.state flash.old) (F.state flash.new) result }
 {
     if place.ready {

@@ -8,8 +8,8 @@ ghost use Rattle.flash_device.specs.PageTables.{IsPageTable};
 ghost use Rattle.flash_device.specs.declared.flash.TheConstants.{BLANK};
 ghost use Rattle.flash_device.specs.declared.layout.TheConstants.{STEP_PAGES};
 ghost use Rattle.flash_area.specs.Spares.{spare_in};
-ghost use Rattle.sector_moves.specs.SectorSpares.{HasFewestSteps, HasStepCopies, IsSectorSpare, ReadsAsCopy};
-ghost use Rattle.sector_moves.specs.SectorSpares.{last_sectors, last_start, sector_steps};
+ghost use Rattle.sector_moves.specs.SectorSpares.{HasFewestSteps, HasOlderCopy, HasStepCopies, IsSectorSpare};
+ghost use Rattle.sector_moves.specs.SectorSpares.{ReadsAsCopy, last_sectors, last_start, sector_steps};
 ghost use Rattle.sector_moves.specs.declared.progress.TheConstants.{NEAR_STEPS};
 
 use crate::layout::spare_slots;
@@ -192,6 +192,9 @@ fn older_copy<F: Flash>(
     ensures most { IfOk result (λ o. IfSome o (λ older. older ≤ pages)) }
     ensures one { IfOk result (λ o. IfSome o (λ older. (p : ℕ) → p < pages → p + 1 ≢ older
         → ReadsAsCopy F.SLOTS (F.state flash.old).words (base_in F.SLOTS turn) (spare_in F.SLOTS turn) below p)) }
+    ensures differs { IfOk result (λ o. IfSome o (λ older. older ≢ 0
+        → ¬ ReadsAsCopy F.SLOTS (F.state flash.old).words (base_in F.SLOTS turn) (spare_in F.SLOTS turn) below
+        (older - 1))) }
     ensures more { IfOk result (λ o. IfNone o ((older : ℕ) → ¬ ((p : ℕ) → p < pages → p + 1 ≢ older
         → ReadsAsCopy F.SLOTS (F.state flash.old).words (base_in F.SLOTS turn) (spare_in F.SLOTS turn) below p))) }
     ensures words { (F.state flash.new).words ≡ (F.state flash.old).words }
@@ -228,6 +231,8 @@ fn copies_of<F: SectorFlash>(
     ensures most { IfOk result (λ o. IfSome o (λ older. older ≤ STEP_PAGES * steps)) }
     ensures copies { IfOk result (λ o. IfSome o (λ older. HasStepCopies F.PAGES F.SLOTS F.SECTORS F.sector_start
         (F.state flash.old).words turn steps older)) }
+    ensures older { IfOk result (λ o. IfSome o (λ older. HasOlderCopy F.SLOTS F.SECTORS F.sector_start
+        (F.state flash.old).words turn steps older)) }
     ensures none { IfOk result (λ o. IfNone o ((older : ℕ) → ¬ HasStepCopies F.PAGES F.SLOTS F.SECTORS F.sector_start
         (F.state flash.old).words turn steps older)) }
     ensures words { (F.state flash.new).words ≡ (F.state flash.old).words }
@@ -261,6 +266,8 @@ fn near_copies<F: SectorFlash>(
     ensures most { IfOk result (λ o. IfSome o (λ r. (r.copied < steps_of F.PAGES)
         × (r.older ≤ STEP_PAGES * r.copied))) }
     ensures copies { IfOk result (λ o. IfSome o (λ r. HasStepCopies F.PAGES F.SLOTS F.SECTORS F.sector_start
+        (F.state flash.old).words turn r.copied r.older)) }
+    ensures older { IfOk result (λ o. IfSome o (λ r. HasOlderCopy F.SLOTS F.SECTORS F.sector_start
         (F.state flash.old).words turn r.copied r.older)) }
     ensures near { IfOk result (λ o. IfSome o (λ r. (least ≤ r.copied) × (r.copied < least + NEAR_STEPS))) }
     ensures last { IfOk result (λ o. IfSome o (λ r. (c older : ℕ) → r.copied < c → c < least + NEAR_STEPS
@@ -306,6 +313,8 @@ fn first_copies<F: SectorFlash>(
         × (r.older ≤ STEP_PAGES * r.copied))) }
     ensures copies { IfOk result (λ o. IfSome o (λ r. HasStepCopies F.PAGES F.SLOTS F.SECTORS F.sector_start
         (F.state flash.old).words turn r.copied r.older)) }
+    ensures older { IfOk result (λ o. IfSome o (λ r. HasOlderCopy F.SLOTS F.SECTORS F.sector_start
+        (F.state flash.old).words turn r.copied r.older)) }
     ensures from { IfOk result (λ o. IfSome o (λ r. from ≤ r.copied)) }
     ensures first { IfOk result (λ o. IfSome o (λ r. (c older : ℕ) → from ≤ c → c < r.copied
         → ¬ HasStepCopies F.PAGES F.SLOTS F.SECTORS F.sector_start (F.state flash.old).words turn c older)) }
@@ -346,6 +355,8 @@ fn find_copies<F: SectorFlash>(
     ensures most { IfOk result (λ r. (r.copied < steps_of F.PAGES) × (r.older ≤ STEP_PAGES * r.copied)) }
     ensures copies { IfOk result (λ r. HasStepCopies F.PAGES F.SLOTS F.SECTORS F.sector_start
         (F.state flash.old).words turn r.copied r.older) }
+    ensures older { IfOk result (λ r. HasOlderCopy F.SLOTS F.SECTORS F.sector_start (F.state flash.old).words turn
+        r.copied r.older) }
     ensures enough { IfOk result (λ r. (c o : ℕ) → c < steps_of F.PAGES → least ≤ c → HasStepCopies F.PAGES F.SLOTS
         F.SECTORS F.sector_start (F.state flash.old).words turn c o → least ≤ r.copied) }
     ensures near { IfOk result (λ r. (c o : ℕ) → c < steps_of F.PAGES → least ≤ c → c < least + NEAR_STEPS
@@ -384,6 +395,8 @@ pub fn find_steps<F: SectorFlash>(
     requires next { next ≤ F.SLOTS }
     ensures spare { IfOk result (λ r. IsSectorSpare F.PAGES F.SLOTS F.SECTORS F.sector_start
         (F.state flash.old).words turn r.erased r.copied r.older) }
+    ensures older { IfOk result (λ r. HasOlderCopy F.SLOTS F.SECTORS F.sector_start (F.state flash.old).words turn
+        r.copied r.older) }
     // If any progress that the flash shows leaves no more steps than there are free slots, what is found does.
     ensures room { IfOk result (λ r. (e c o : ℕ) → IsSectorSpare F.PAGES F.SLOTS F.SECTORS F.sector_start
         (F.state flash.old).words turn e c o → sector_steps F.PAGES F.SECTORS turn e c + next ≤ F.SLOTS

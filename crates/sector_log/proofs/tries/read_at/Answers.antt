@@ -16,3 +16,15 @@ returns-clause-word g c =
     word ∙ ap (λ (b : ℕ). page_word m b slots (at / 16) (at % 16)) base
     ∙ sym (index-words pages slots m at c.requires.at)
     ∙ ap (λ (l : List ℕ). slice_index (words_of pages slots l) at) c.find_pages.ensures.words
+
+pub returns-in_err-word-clause-first : goal.returns-in_err-word-clause-first
+returns-in_err-word-clause-first g c = λ unready ready. c.in_ok-find_pages.ensures.first unready
+
+pub returns-clause-first : goal.returns-clause-first
+returns-clause-first g c = λ unready ready. c.in_ok-find_pages.ensures.first unready
+
+pub returns-in_err-word-clause-older : goal.returns-in_err-word-clause-older
+returns-in_err-word-clause-older g c = λ unready ready. c.in_ok-find_pages.ensures.older unready
+
+pub returns-clause-older : goal.returns-clause-older
+returns-clause-older g c = λ unready ready. c.in_ok-find_pages.ensures.older unready

@@ -94,3 +94,20 @@ returns-clause-found g c = λ none.
     let most : max first c.min.result ≤ first = max-le (omega arith) (omega (arith, few)) in
     let next : c.max-next.result ≤ first = omega (arith, c.max-next.ensures, most) in
     record { all = λ s are. let from = found.first s are in omega (arith, from, next) }
+
+pub returns-clause-first : goal.returns-clause-first
+returns-clause-first g c = λ s are from.
+    let slots = g.F.Flash.SLOTS in
+    let m = (g.F.Flash.state c.args.flash.now).words in
+    let turn = c.in_ok-turn.turn in
+    let first = c.in_ok-first.first in
+    let tried = c.args.place.now.tried in
+    let same : (g.F.Flash.state c.find_turn.new.flash).words ≡ m = c.find_turn.ensures.words in
+    let least : IsFirstFreeSlot m (base_in slots turn) first slots =
+    subst (λ (b : ℕ). IsFirstFreeSlot m b first slots) (c.home.ensures.is slots)
+    (subst (λ (l : List ℕ). IsFirstFreeSlot l (base_in slots c.home.result) first slots) same
+    c.in_ok-first.ensures.first) in
+    let here : first ≤ s = least.first s are in
+    let few : min tried c.SLOTS.result ≤ tried = min-le_left tried c.SLOTS.result in
+    let most : max first c.min.result ≤ s = max-le here (omega (arith, c.min.ensures, few, from)) in
+    omega (arith, c.max-next.ensures, most)

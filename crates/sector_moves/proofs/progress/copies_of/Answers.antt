@@ -1,8 +1,8 @@
-use Rattle.std.proofs.Common.{◌≡◌, ◌≢◌, ◌<◌, ◌≤◌, ◌+◌, ◌*◌, ℕ, List, sym, subst, arith}
+use Rattle.std.proofs.Common.{◌≡◌, ◌≢◌, ◌<◌, ◌≤◌, ◌+◌, ◌-◌, ◌*◌, ℕ, List, sym, subst, arith}
 use Rattle.flash_device.specs.PageTables.{IsPageTable}
 use Rattle.flash_device.specs.FlashLogs.{base_in}
 use Rattle.flash_area.specs.Spares.{spare_in}
-use Rattle.sector_moves.specs.SectorSpares.{HasStepCopies, ReadsAsCopy, spare_slots}
+use Rattle.sector_moves.specs.SectorSpares.{HasOlderCopy, HasStepCopies, ReadsAsCopy, spare_slots}
 use Rattle.sector_moves.specs.laws.Tracing.{copies_are, copies_read, none_with, some_with}
 use Rattle.sector_moves.proofs.progress.copies_of.Goals as goal
 
@@ -37,6 +37,23 @@ returns-clause-copies g c =
     (λ p lt but. subst (λ (n : ℕ). ReadsAsCopy slots m from to n p) is
     (subst (λ (l : List ℕ). ReadsAsCopy slots l from to below p) c.scan_slots.ensures.words (reads p lt but))))
     c.in_ok-older.ensures.one
+
+pub returns-clause-older : goal.returns-clause-older
+returns-clause-older g c =
+    let slots = g.F.Flash.SLOTS in
+    let m = (g.F.Flash.state c.args.flash.now).words in
+    let mid = (g.F.Flash.state c.scan_slots.new.flash).words in
+    let turn = c.args.turn in
+    let from = base_in slots turn in
+    let to = spare_in slots turn in
+    let below = c.spare_slots-below.result in
+    some_with c.in_ok-older.older
+    (λ older. older ≢ 0 → ¬ ReadsAsCopy slots mid from to below (older - 1))
+    (λ older. HasOlderCopy slots g.F.Flash.SECTORS g.F.Flash.sector_start m turn c.args.steps older)
+    (λ older differs some reads. differs some
+    (subst (λ (l : List ℕ). ReadsAsCopy slots l from to below (older - 1)) (sym c.scan_slots.ensures.words)
+    (subst (λ (n : ℕ). ReadsAsCopy slots m from to n (older - 1)) (sym c.spare_slots-below.ensures.is) reads)))
+    c.in_ok-older.ensures.differs
 
 pub returns-clause-none : goal.returns-clause-none
 returns-clause-none g c =
