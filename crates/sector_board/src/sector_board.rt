@@ -302,9 +302,12 @@ impl<F: SectorFlash> Board for SectorBoard<F> {
         ensures last { OnOk result (find (sector_state self.new).raw
             (base_in F.SLOTS (turn_of F.SLOTS (sector_state self.new).raw)) F.SLOTS page
             ≡ F.SLOTS - (sector_state self.new).free) }
-        // Only the copy of its page may be older.
+        // Behind Ok only the copy of its page may be older, else also the one that might be before.
         ensures older { OnOk result (((sector_state self.new).older ≡ 0)
             ⊎ ((sector_state self.new).older ≡ page + 1)) }
+        ensures stays_older { 0 < (sector_state self.old).free → 0 < (sector_state self.new).free
+            → ((sector_state self.new).older ≡ 0) ⊎ (((sector_state self.new).older ≡ page + 1)
+            ⊎ ((sector_state self.new).older ≡ (sector_state self.old).older)) }
         // A move leaves all slots free but those of the sectors that its steps filled, and that of the record.
         ensures regains { OnOk result ((sector_state self.new).flash.faults ≡ (sector_state self.old).flash.faults
             → 0 < (sector_state self.old).free → (sector_state self.old).free < (sector_state self.new).free

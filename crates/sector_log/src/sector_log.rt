@@ -204,8 +204,10 @@ impl<F: SectorFlash> SectorLog<F> {
         // The record is in the last slot that isn't free.
         ensures last { OnOk result (find self.new.raw (base_in F.SLOTS (turn_of F.SLOTS self.new.raw)) F.SLOTS page
             ≡ F.SLOTS - self.new.free) }
-        // Only the copy of its page may be older.
+        // Behind Ok only the copy of its page may be older, else also the one that might be before.
         ensures older { OnOk result ((self.new.older ≡ 0) ⊎ (self.new.older ≡ page + 1)) }
+        ensures stays_older { 0 < self.old.free → 0 < self.new.free → (self.new.older ≡ 0)
+            ⊎ ((self.new.older ≡ page + 1) ⊎ (self.new.older ≡ self.old.older)) }
         // A move leaves all slots free but those of the sectors that its steps filled, and that of the record.
         ensures regains { OnOk result (self.new.flash.faults ≡ self.old.flash.faults
             → 0 < self.old.free → self.old.free < self.new.free

@@ -259,8 +259,10 @@ pub fn write_at<F: SectorFlash>(
     ensures last { OnOk result (find (F.state flash.new).words
         (base_in F.SLOTS (turn_of F.SLOTS (F.state flash.new).words)) F.SLOTS page
         ≡ F.SLOTS - free_slots F.SLOTS place.new) }
-    // Only the copy of its page may be older.
+    // Behind Ok only the copy of its page may be older, else also the one that might be before.
     ensures older { OnOk result ((known_older place.new ≡ 0) ⊎ (known_older place.new ≡ page + 1)) }
+    ensures stays_older { place.old.ready ≡ true → place.new.ready ≡ true → (place.new.older ≡ 0)
+        ⊎ ((place.new.older ≡ page + 1) ⊎ (place.new.older ≡ place.old.older)) }
     // A write behind which more slots are free than before has ended a move.
     ensures regains { OnOk result ((F.state flash.new).faults ≡ (F.state flash.old).faults
         → 0 < free_slots F.SLOTS place.old → free_slots F.SLOTS place.old < free_slots F.SLOTS place.new
