@@ -277,12 +277,12 @@ impl<F: Flash> Board for FlashBoard<F> {
         ensures stands { (extra : ℕ) → extra ≤ extra_of F.PAGES F.SLOTS F.SECTORS
             → StandsInPace F.PAGES F.SLOTS F.SECTORS F.sector_start extra (log_state self.old)
             → StandsInPace F.PAGES F.SLOTS F.SECTORS F.sector_start extra (log_state self.new) }
-        // Where a move may be under way, no more steps are left than by each that the flash shows.
+        // Where a move is due, no more steps are left than by each that goes on or begins anew.
         ensures fewest { (log_state self.old).ready ≡ false → (log_state self.new).ready ≡ true
             → (log_state self.new).free ≤ lead_of F.PAGES F.SECTORS
             → HasFewestLeft F.PAGES F.SLOTS F.SECTORS F.sector_start (log_state self.old).raw
             (F.SLOTS - (log_state self.new).free) (log_state self.new).left }
-        // A log stays as it is if it knew its pages, or still has to find them. Behind Ok it knows them.
+        // What contracts know of it stays if it knew its pages, or still has to find them. Behind Ok it knows them.
         ensures known { (log_state self.old).ready ≡ true
             → log_state self.new ≡ record (log_state self.old) { flash = (log_state self.new).flash } }
         ensures waits { (log_state self.new).ready ≡ false

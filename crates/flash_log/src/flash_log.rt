@@ -179,11 +179,11 @@ impl<F: Flash> FlashLog<F> {
         ensures stands { (extra : ℕ) → extra ≤ extra_of F.PAGES F.SLOTS F.SECTORS
             → StandsInPace F.PAGES F.SLOTS F.SECTORS F.sector_start extra self.old
             → StandsInPace F.PAGES F.SLOTS F.SECTORS F.sector_start extra self.new }
-        // Where a move may be under way, no more steps are left than by each that the flash shows.
+        // Where a move is due, no more steps are left than by each that goes on or begins anew.
         ensures fewest { self.old.ready ≡ false → self.new.ready ≡ true → self.new.free ≤ lead_of F.PAGES F.SECTORS
             → HasFewestLeft F.PAGES F.SLOTS F.SECTORS F.sector_start self.old.raw (F.SLOTS - self.new.free)
             self.new.left }
-        // A log stays as it is if it knew its pages, or still has to find them. Behind Ok it knows them.
+        // What contracts know of it stays if it knew its pages, or still has to find them. Behind Ok it knows them.
         ensures known { self.old.ready ≡ true → self.new ≡ record self.old { flash = self.new.flash } }
         ensures waits { self.new.ready ≡ false → self.new ≡ record self.old { flash = self.new.flash } }
         ensures ready { OnOk result (self.new.ready ≡ true) }

@@ -89,7 +89,7 @@ module _ {T : Type 0} (pages slots sectors : ℕ) where
         subst (λ (l : List ℕ). IsNextSlot slots l passed n) words,
       )
 
-  -- So does a search that failed,
+  -- So does a search that failed.
   pub next_lost : (old new : FlashState) (p q : PageMap T) → p.ready ≡ false → q.ready ≡ false
       → q.tried ≡ p.tried → new.words ≡ old.words
       → SameNext slots (log_value pages slots sectors old p) (log_value pages slots sectors new q)
@@ -107,7 +107,7 @@ module _ {T : Type 0} (pages slots sectors : ℕ) where
             words (subst (λ (k : ℕ). IsNextSlot slots new.words k n) (sym same) next),
       )
 
-  -- which leaves all that the log knows,
+  -- It leaves all that contracts know, but the flash.
   pub waits_same : (old new : FlashState) (p q : PageMap T) → p.ready ≡ false → q.ready ≡ false
       → q.tried ≡ p.tried → new.words ≡ old.words
       → log_value pages slots sectors new q
@@ -135,7 +135,7 @@ module _ {T : Type 0} (pages slots sectors : ℕ) where
         raw = l;
       }
 
-  -- and one that found it.
+  -- So does a search that found the pages.
   pub next_found : (old new : FlashState) (p q : PageMap T) → p.ready ≡ false → q.ready ≡ true
       → new.words ≡ old.words → IsNextSlot slots old.words p.tried q.next
       → SameNext slots (log_value pages slots sectors old p) (log_value pages slots sectors new q)
