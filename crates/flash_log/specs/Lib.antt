@@ -1,3 +1,4 @@
+pub mod KeptParts
 pub mod Openings
 pub mod Renewals
 pub mod SlotsInTurn

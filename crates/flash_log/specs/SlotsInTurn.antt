@@ -4,7 +4,7 @@ use Rattle.flash_area.specs.Spares.{MoveBeginsAnew, MoveGoesOn, steps_from}
 use Rattle.flash_device.specs.FlashCalls.{SameElsewhere}
 use Rattle.flash_device.specs.FlashLogs.{base_in, slot_of, turn_of}
 use Rattle.flash_device.specs.PageTables.{AreFree}
-use Rattle.flash_moves.specs.Paces.{LogState, extra_of}
+use Rattle.flash_moves.specs.Paces.{LogState, extra_of, move_steps_of}
 
 -- the slots that the log has passed: those that aren't free, or before it has found its pages those that writes tried
 abbrev pub passed_slots : ℕ → LogState → ℕ
@@ -30,6 +30,11 @@ SameNext slots old new = (n : ℕ)
 abbrev pub BeginsBy : ℕ → LogState → ℕ → Type 0
 BeginsBy slots l n = (k : ℕ) → IsNextSlot slots l.raw (passed_slots slots l) k → k ≤ n
 
+-- A write met two Faults, or the next one begins no later than it did.
+abbrev pub MeetsTwoOrStays : ℕ → LogState → LogState → Type 0
+MeetsTwoOrStays slots old new = (old.flash.faults + 2 ≤ new.flash.faults)
+    ⊎ ((n : ℕ) → BeginsBy slots old n → BeginsBy slots new n)
+
 -- Tries of a write take slots from n on, so many at most, and the next write begins behind them: until power-on no slot
 -- is taken again, even if it reads blank. Together they got at most two programs a slot, of a record and its mark. No
 -- other word of the flash changed, and nothing was erased.
@@ -53,7 +58,7 @@ pub record FindsNext (slots n : ℕ) (old new : LogState) : Type 0 where
   pub takes : WillTake slots new n
 
 -- No slot from one on is left for a record of a page: the steps of each move that goes on, and has no older copy but
--- that of this page, need them all, and so do those of each that begins anew.
+-- that of this page, need them all, and so do those of each that begins anew, and of one that begins in turn 1.
 pub record HasNoSlot (pages slots sectors : ℕ) (start : ℕ → ℕ) (m : List ℕ) (page n : ℕ) : Type 0 where
   pub on : (e c b o : ℕ)
       → MoveGoesOn pages slots sectors start m (turn_of slots m) n (extra_of pages slots sectors) e c b o
@@ -62,6 +67,7 @@ pub record HasNoSlot (pages slots sectors : ℕ) (start : ℕ → ℕ) (m : List
   pub anew : (e : ℕ)
       → MoveBeginsAnew pages slots sectors start m (turn_of slots m) n (extra_of pages slots sectors) e
       → slots ≤ steps_from pages sectors (turn_of slots m) e 0 + n
+  pub whole : slots ≤ move_steps_of pages sectors + n
 
 -- A write of a page has no slot left for its next try.
 pub record GivesUp (pages slots sectors : ℕ) (start : ℕ → ℕ) (page : ℕ) (l : LogState) : Type 0 where

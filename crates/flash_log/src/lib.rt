@@ -3,6 +3,7 @@
 #![tactic(auto)]
 
 mod flash_log;
+mod kept;
 mod renewal;
 mod steps;
 mod tries;

@@ -5,7 +5,7 @@ ghost use Rattle.flash_device.specs.FlashCalls.{Costs, Lights, Tries};
 ghost use Rattle.flash_device.specs.FlashLogs.{base_in, turn_of, words_of};
 ghost use Rattle.flash_device.specs.PageTables.{AreFree, IsPageTable};
 ghost use Rattle.flash_moves.specs.Paces.{CopiesNoPageAt, HasStepped, HasMoved, HasNoStepDue, IsInPace, IsRoomy};
-ghost use Rattle.flash_moves.specs.Paces.{KeepsFree, KeepsPace, MovesFound, MovesWell, Pauses};
+ghost use Rattle.flash_moves.specs.Paces.{EndsStep, KeepsFree, KeepsPace, MovesFound, MovesWell, Pauses};
 ghost use Rattle.flash_moves.specs.Paces.{IsBeforeMove, IsCaughtUp, WillKeepPace, extra_of, free_slots};
 ghost use Rattle.flash_moves.specs.Paces.{KeepsRoom, StandsSo, StaysInArea, failed_since, is_fresh, lead_of};
 ghost use Rattle.flash_moves.specs.Paces.{lost_since, steps_left};
@@ -280,6 +280,11 @@ pub fn prepare<F: Flash>(flash: &mut F, place: &mut PageMap<F::Table>) -> Result
         → KeepsPace F.PAGES F.SLOTS F.SECTORS extra place.old → F.SLOTS ≤ place.old.next + lead_of F.PAGES F.SECTORS
         → StaysInArea F.SLOTS (F.state flash.old).words (F.state flash.new).words
         → steps_left F.PAGES F.SECTORS place.new + 1 ≤ steps_left F.PAGES F.SECTORS place.old) }
+    // Behind Ok a step is taken in pace, if one was due, also where programs of it failed.
+    ensures ends { OnOk result ((extra : ℕ)
+        → IsRoomy F.PAGES F.SLOTS F.SECTORS (extra + failed_since (F.state flash.old) (F.state flash.new))
+        → KeepsPace F.PAGES F.SLOTS F.SECTORS extra place.old
+        → EndsStep F.PAGES F.SLOTS F.SECTORS place.old place.new) }
     ensures begins { (extra n : ℕ)
         → IsRoomy F.PAGES F.SLOTS F.SECTORS (extra + failed_since (F.state flash.old) (F.state flash.new))
         → WillKeepPace F.PAGES F.SLOTS F.SECTORS F.sector_start (F.state flash.old).words extra place.old

@@ -3,7 +3,6 @@ ghost use Rattle.std.specs.Prelude.{◌≡◌, ◌⊎◌, ◌<◌, ◌≤◌, �
 ghost use Rattle.std.specs.Prelude.{IsErrOf, OnErr, OnOk};
 ghost use Rattle.nvm_board.specs.History.{written};
 ghost use Rattle.nvm_board.specs.declared.board.DeviceErr.TheVariants as DeviceErr;
-ghost use Rattle.flash_device.specs.FlashBlocks.{steps_of};
 ghost use Rattle.flash_device.specs.FlashCalls.{Costs, Lights, Tries};
 ghost use Rattle.flash_device.specs.FlashLogs.{base_in, find, turn_of, words_of};
 ghost use Rattle.flash_moves.specs.Paces.{CopiesNoPageAt, HasStepped, IsBrief, IsInPace, IsRoomy, KeepsPace, OwnsOlder};
@@ -12,37 +11,16 @@ ghost use Rattle.flash_moves.specs.Paces.{extra_slots};
 ghost use Rattle.flash_moves.specs.Paces.{failed_since, free_slots, lead_of, lost_since, move_steps_of};
 ghost use Rattle.flash_moves.specs.Paces.{steps_left as steps_left_of};
 ghost use Rattle.flash_moves.specs.Places.{FindsFree, IsLog, log_value};
-ghost use Rattle.flash_log.specs.SlotsInTurn.{BeginsBy, GivesUp, TakesInTurn, WillTake};
+ghost use Rattle.flash_log.specs.KeptParts.{IsPacedBehind, KeepsPlace, WillPace};
+ghost use Rattle.flash_log.specs.SlotsInTurn.{BeginsBy, GivesUp, TakesInTurn, MeetsTwoOrStays, WillTake};
 ghost use Rattle.flash_moves.specs.declared.ahead.TheConstants.{TRIES};
 
-use crate::steps::{find_pages, prepare};
+use crate::kept::{find_again, goes_on, has_slot};
+use crate::steps::prepare;
 use flash_area::{home, older_page};
-use flash_device::{Flash, copy_steps};
+use flash_device::Flash;
 use flash_moves::{PageMap, TRIES, move_steps, write_run};
 use nvm_board::DeviceErr;
-
-/// The steps that are left of a move.
-fn steps_left<F: Flash>(place: &PageMap<F::Table>) -> u16
-    requires fits { (place.now.erased ≤ F.SECTORS) × (place.now.copied < steps_of F.PAGES) }
-    ensures { result ≡ steps_left_of F.PAGES F.SECTORS place.now }
-{
-    let first = if place.turn == 1 { 1 } else { 0 };
-    first + (F::SECTORS - place.erased) + (copy_steps::<F>() - place.copied)
-}
-
-/// Returns true if a record of a page may take the next slot: it's free beside those of the steps that are left, and
-/// no copy of another page may be older.
-fn has_slot<F: Flash>(place: &PageMap<F::Table>, page: u16) -> bool
-    requires fits { (place.now.erased ≤ F.SECTORS) × (place.now.copied < steps_of F.PAGES)
-        × (place.now.next ≤ F.SLOTS) }
-    requires page { page < F.PAGES }
-    ensures yes { result ≡ true → OwnsOlder page place.now
-        × (steps_left_of F.PAGES F.SECTORS place.now + place.now.next < F.SLOTS) }
-    ensures no { result ≡ false → OwnsOlder page place.now
-        → F.SLOTS ≤ steps_left_of F.PAGES F.SECTORS place.now + place.now.next }
-{
-    (place.older == 0 || place.older == page + 1) && steps_left::<F>(place) < F::SLOTS - place.next
-}
 
 /// If a copy of another page may be older, begins the move anew, as long as there are slots for that. A record makes
 /// its own page older, and there is room for one.
@@ -55,6 +33,8 @@ fn keep_own<F: Flash>(place: &mut PageMap<F::Table>, page: u16)
         × (place.new.tried ≡ place.old.tried) }
     ensures own { place.old.next + move_steps_of F.PAGES F.SECTORS < F.SLOTS → OwnsOlder page place.new }
     ensures full { F.SLOTS ≤ place.old.next + move_steps_of F.PAGES F.SECTORS → place.new ≡ place.old }
+    ensures owned { OwnsOlder page place.old → place.new ≡ place.old }
+    ensures begun { 0 < place.new.copied + place.new.behind → 0 < place.old.copied + place.old.behind }
     ensures paced { (extra : ℕ) → KeepsPace F.PAGES F.SLOTS F.SECTORS extra place.old
         → KeepsPace F.PAGES F.SLOTS F.SECTORS extra place.new }
 {
@@ -98,6 +78,13 @@ fn put_next<F: Flash>(
     ensures erases { (F.state flash.new).erases ≡ (F.state flash.old).erases }
     ensures ready { OnOk result (place.new.ready ≡ true) }
     ensures unready { OnErr result (place.new.ready ≡ false) }
+    // Behind a record that failed, all but the table is known still.
+    ensures holds { OnErr result ((0 < place.old.copied + place.old.behind
+        → F.SLOTS ≤ place.old.next + lead_of F.PAGES F.SECTORS)
+        → KeepsPlace F.PAGES F.SLOTS F.SECTORS F.sector_start (F.state flash.new).words page place.new) }
+    ensures paces { OnErr result ((extra : ℕ) → HasStepped F.PAGES F.SLOTS F.SECTORS extra place.old
+        → IsPacedBehind F.PAGES F.SLOTS F.SECTORS extra place.new) }
+    ensures tried { place.new.tried ≡ place.old.next + 1 }
     ensures next { OnOk result (place.new.next ≡ place.old.next + 1) }
     ensures behind { place.new.behind ≡ place.old.behind }
     ensures copied { place.new.copied ≡ place.old.copied }
@@ -115,7 +102,7 @@ fn put_next<F: Flash>(
         (base_in F.SLOTS (turn_of F.SLOTS (F.state flash.new).words)) F.SLOTS page
         ≡ F.SLOTS - free_slots F.SLOTS place.new) }
 {
-    let older = older_page(page, place.copied);
+    place.older = older_page(page, place.copied);
     place.ready = false;
     place.tried = place.next + 1;
     write_run(
@@ -128,7 +115,6 @@ fn put_next<F: Flash>(
         words,
     )?;
     place.next += 1;
-    place.older = older;
     place.ready = true;
     Ok(())
 }
@@ -138,6 +124,7 @@ fn put_next<F: Flash>(
 fn write_once<F: Flash>(
     flash: &mut F,
     place: &mut PageMap<F::Table>,
+    kept: &mut bool,
     page: u16,
     first: u8,
     words: &[u32],
@@ -181,6 +168,27 @@ fn write_once<F: Flash>(
     ensures once { (n : ℕ) → n + lead_of F.PAGES F.SECTORS < F.SLOTS
         → WillTake F.SLOTS (log_value F.PAGES F.SLOTS F.SECTORS (F.state flash.old) place.old) n
         → (F.state flash.new).faults ≤ (F.state flash.old).faults + 1 }
+    // Behind a record that failed, all but the table is known still, and in pace a slot is left beside those of the
+    // steps if there were two.
+    ensures holds { IsErrOf result DeviceErr.Fault → kept.new ≡ true
+        → KeepsPlace F.PAGES F.SLOTS F.SECTORS F.sector_start (F.state flash.new).words page place.new }
+    ensures keeps { IsErrOf result DeviceErr.Fault → (extra : ℕ)
+        → IsRoomy F.PAGES F.SLOTS F.SECTORS (extra + failed_since (F.state flash.old) (F.state flash.new))
+        → WillKeepPace F.PAGES F.SLOTS F.SECTORS F.sector_start (F.state flash.old).words extra place.old
+        → WillPace kept.new F.PAGES F.SLOTS F.SECTORS F.sector_start (F.state flash.new).words
+        (extra + lost_since (F.state flash.old) (F.state flash.new)) place.new }
+    ensures beside { IsErrOf result DeviceErr.Fault → kept.new ≡ true → (extra : ℕ)
+        → IsRoomy F.PAGES F.SLOTS F.SECTORS (extra + failed_since (F.state flash.old) (F.state flash.new))
+        → KeepsPace F.PAGES F.SLOTS F.SECTORS extra place.old
+        → steps_left_of F.PAGES F.SECTORS place.old + place.old.next < F.SLOTS
+        → steps_left_of F.PAGES F.SECTORS place.new + place.new.tried < F.SLOTS }
+    // Without a try of the record no slot is passed over.
+    ensures untried { IsErrOf result DeviceErr.Fault → kept.new ≡ false → (extra n : ℕ)
+        → IsRoomy F.PAGES F.SLOTS F.SECTORS (extra + failed_since (F.state flash.old) (F.state flash.new))
+        → WillKeepPace F.PAGES F.SLOTS F.SECTORS F.sector_start (F.state flash.old).words extra place.old
+        → StaysInArea F.SLOTS (F.state flash.old).words (F.state flash.new).words
+        → BeginsBy F.SLOTS (log_value F.PAGES F.SLOTS F.SECTORS (F.state flash.old) place.old) n
+        → BeginsBy F.SLOTS (log_value F.PAGES F.SLOTS F.SECTORS (F.state flash.new) place.new) n }
     ensures steps { OnOk result ((extra : ℕ) → IsRoomy F.PAGES F.SLOTS F.SECTORS extra
         → (F.state flash.new).faults ≡ (F.state flash.old).faults
         → KeepsPace F.PAGES F.SLOTS F.SECTORS extra place.old → F.SLOTS ≤ place.old.next + lead_of F.PAGES F.SECTORS
@@ -216,15 +224,18 @@ fn write_once<F: Flash>(
         → WillKeepPace F.PAGES F.SLOTS F.SECTORS F.sector_start (F.state flash.new).words
         (extra + lost_since (F.state flash.old) (F.state flash.new)) place.new }
 {
+    *kept = false;
     prepare(flash, place)?;
+    *kept = goes_on::<F>(place);
     put_next(flash, place, page, first, words)
 }
 
-/// Looks for the pages anew behind a Fault, and puts the record into the next slot, if one is free beside those of the
+/// Finds the pages again behind a Fault, and puts the record into the next slot, if one is free beside those of the
 /// steps that are left. It takes no step.
 fn write_again<F: Flash>(
     flash: &mut F,
     place: &mut PageMap<F::Table>,
+    kept: &mut bool,
     page: u16,
     first: u8,
     words: &[u32],
@@ -233,6 +244,8 @@ fn write_again<F: Flash>(
     requires log { IsLog F.Table.entries F.PAGES F.SLOTS F.SECTORS F.sector_start (F.state flash.old).words place.old }
     requires unready { place.old.ready ≡ false }
     requires page { page < F.PAGES }
+    requires keeps { kept.old ≡ true
+        → KeepsPlace F.PAGES F.SLOTS F.SECTORS F.sector_start (F.state flash.old).words page place.old }
     requires run { first + length words.now ≤ 16 }
     ensures whole { (words_of F.PAGES F.SLOTS (F.state flash.new).words
         ≡ words_of F.PAGES F.SLOTS (F.state flash.old).words)
@@ -248,6 +261,19 @@ fn write_again<F: Flash>(
         (log_value F.PAGES F.SLOTS F.SECTORS (F.state flash.new) place.new) }
     ensures failed_once { IsErrOf result DeviceErr.Fault → place.new.ready ≡ false
         → (F.state flash.old).faults + 1 ≤ (F.state flash.new).faults }
+    // What is known stays known behind a Fault, and the log is in pace by it.
+    ensures holds { IsErrOf result DeviceErr.Fault → place.new.ready ≡ false → kept.new ≡ true
+        → KeepsPlace F.PAGES F.SLOTS F.SECTORS F.sector_start (F.state flash.new).words page place.new }
+    ensures keeps { IsErrOf result DeviceErr.Fault → place.new.ready ≡ false → (extra : ℕ)
+        → extra ≤ extra_of F.PAGES F.SLOTS F.SECTORS
+        → WillPace kept.old F.PAGES F.SLOTS F.SECTORS F.sector_start (F.state flash.old).words extra place.old
+        → WillPace kept.new F.PAGES F.SLOTS F.SECTORS F.sector_start (F.state flash.new).words extra place.new }
+    // By what is known, it gives up only where that leaves no slot. Else it has tried none.
+    ensures full { IsErrOf result DeviceErr.Fault → place.new.ready ≡ true → kept.old ≡ true
+        → F.SLOTS ≤ steps_left_of F.PAGES F.SECTORS place.old + place.old.tried }
+    ensures untried { IsErrOf result DeviceErr.Fault → place.new.ready ≡ true → (n : ℕ)
+        → BeginsBy F.SLOTS (log_value F.PAGES F.SLOTS F.SECTORS (F.state flash.old) place.old) n
+        → BeginsBy F.SLOTS (log_value F.PAGES F.SLOTS F.SECTORS (F.state flash.new) place.new) n }
     ensures slotted { (n : ℕ) → n + move_steps_of F.PAGES F.SECTORS < F.SLOTS
         → WillTake F.SLOTS (log_value F.PAGES F.SLOTS F.SECTORS (F.state flash.old) place.old) n
         → IsErrOf result DeviceErr.Fault → place.new.ready ≡ false }
@@ -266,11 +292,11 @@ fn write_again<F: Flash>(
         (log_value F.PAGES F.SLOTS F.SECTORS (F.state flash.new) place.new) }
     ensures turn { turn_of F.SLOTS (F.state flash.new).words ≡ turn_of F.SLOTS (F.state flash.old).words }
     ensures begins { (extra n : ℕ) → extra ≤ extra_of F.PAGES F.SLOTS F.SECTORS
-        → WillKeepPace F.PAGES F.SLOTS F.SECTORS F.sector_start (F.state flash.old).words extra place.old
+        → WillPace kept.old F.PAGES F.SLOTS F.SECTORS F.sector_start (F.state flash.old).words extra place.old
         → BeginsBy F.SLOTS (log_value F.PAGES F.SLOTS F.SECTORS (F.state flash.old) place.old) n
         → BeginsBy F.SLOTS (log_value F.PAGES F.SLOTS F.SECTORS (F.state flash.new) place.new) (n + 1) }
     ensures passes { IsErrOf result DeviceErr.Fault → (extra n : ℕ) → extra ≤ extra_of F.PAGES F.SLOTS F.SECTORS
-        → WillKeepPace F.PAGES F.SLOTS F.SECTORS F.sector_start (F.state flash.old).words extra place.old
+        → WillPace kept.old F.PAGES F.SLOTS F.SECTORS F.sector_start (F.state flash.old).words extra place.old
         → BeginsBy F.SLOTS (log_value F.PAGES F.SLOTS F.SECTORS (F.state flash.old) place.old) n
         → BeginsBy F.SLOTS (log_value F.PAGES F.SLOTS F.SECTORS (F.state flash.new) place.new)
         (n + ((F.state flash.new).faults - (F.state flash.old).faults)) }
@@ -278,14 +304,15 @@ fn write_again<F: Flash>(
         (base_in F.SLOTS (turn_of F.SLOTS (F.state flash.new).words)) F.SLOTS page
         ≡ F.SLOTS - free_slots F.SLOTS place.new) }
     ensures stands { (extra : ℕ) → extra ≤ extra_of F.PAGES F.SLOTS F.SECTORS
-        → WillKeepPace F.PAGES F.SLOTS F.SECTORS F.sector_start (F.state flash.old).words extra place.old
+        → WillPace kept.old F.PAGES F.SLOTS F.SECTORS F.sector_start (F.state flash.old).words extra place.old
         → WillKeepPace F.PAGES F.SLOTS F.SECTORS F.sector_start (F.state flash.new).words extra place.new }
 {
-    find_pages(flash, place)?;
+    find_again(flash, place, kept, page)?;
     keep_own::<F>(place, page);
     if !has_slot::<F>(place, page) {
         return Err(DeviceErr::Fault);
     }
+    *kept = true;
     put_next(flash, place, page, first, words)
 }
 
@@ -294,6 +321,7 @@ fn write_again<F: Flash>(
 fn try_again<F: Flash>(
     flash: &mut F,
     place: &mut PageMap<F::Table>,
+    kept: &mut bool,
     page: u16,
     first: u8,
     words: &[u32],
@@ -302,6 +330,8 @@ fn try_again<F: Flash>(
     requires log { IsLog F.Table.entries F.PAGES F.SLOTS F.SECTORS F.sector_start (F.state flash.old).words place.old }
     requires unready { place.old.ready ≡ false }
     requires page { page < F.PAGES }
+    requires keeps { kept.old ≡ true
+        → KeepsPlace F.PAGES F.SLOTS F.SECTORS F.sector_start (F.state flash.old).words page place.old }
     requires run { first + length words.now ≤ 16 }
     ensures whole { (words_of F.PAGES F.SLOTS (F.state flash.new).words
         ≡ words_of F.PAGES F.SLOTS (F.state flash.old).words)
@@ -320,6 +350,12 @@ fn try_again<F: Flash>(
         → ((F.state flash.old).faults + TRIES ≤ (F.state flash.new).faults + 1)
         ⊎ GivesUp F.PAGES F.SLOTS F.SECTORS F.sector_start page
         (log_value F.PAGES F.SLOTS F.SECTORS (F.state flash.new) place.new) }
+    // Without a Fault it had no slot from the start, by what was known too, and has tried none.
+    ensures at_once { IsErrOf result DeviceErr.Fault
+        → ((F.state flash.old).faults + 1 ≤ (F.state flash.new).faults)
+        ⊎ ((kept.old ≡ true → F.SLOTS ≤ steps_left_of F.PAGES F.SECTORS place.old + place.old.tried)
+        × ((n : ℕ) → BeginsBy F.SLOTS (log_value F.PAGES F.SLOTS F.SECTORS (F.state flash.old) place.old) n
+        → BeginsBy F.SLOTS (log_value F.PAGES F.SLOTS F.SECTORS (F.state flash.new) place.new) n)) }
     ensures work { Costs 2 2 (F.state flash.old) (F.state flash.new) }
     ensures erases { (F.state flash.new).erases ≡ (F.state flash.old).erases }
     ensures slots { (n : ℕ) → n + lead_of F.PAGES F.SECTORS ≤ F.SLOTS
@@ -329,12 +365,12 @@ fn try_again<F: Flash>(
         (log_value F.PAGES F.SLOTS F.SECTORS (F.state flash.new) place.new) }
     ensures turn { turn_of F.SLOTS (F.state flash.new).words ≡ turn_of F.SLOTS (F.state flash.old).words }
     ensures begins { (extra n : ℕ) → extra ≤ extra_of F.PAGES F.SLOTS F.SECTORS
-        → WillKeepPace F.PAGES F.SLOTS F.SECTORS F.sector_start (F.state flash.old).words extra place.old
+        → WillPace kept.old F.PAGES F.SLOTS F.SECTORS F.sector_start (F.state flash.old).words extra place.old
         → BeginsBy F.SLOTS (log_value F.PAGES F.SLOTS F.SECTORS (F.state flash.old) place.old) n
         → BeginsBy F.SLOTS (log_value F.PAGES F.SLOTS F.SECTORS (F.state flash.new) place.new)
         (n + 1 + ((F.state flash.new).faults - (F.state flash.old).faults)) }
     ensures passes { IsErrOf result DeviceErr.Fault → (extra n : ℕ) → extra ≤ extra_of F.PAGES F.SLOTS F.SECTORS
-        → WillKeepPace F.PAGES F.SLOTS F.SECTORS F.sector_start (F.state flash.old).words extra place.old
+        → WillPace kept.old F.PAGES F.SLOTS F.SECTORS F.sector_start (F.state flash.old).words extra place.old
         → BeginsBy F.SLOTS (log_value F.PAGES F.SLOTS F.SECTORS (F.state flash.old) place.old) n
         → BeginsBy F.SLOTS (log_value F.PAGES F.SLOTS F.SECTORS (F.state flash.new) place.new)
         (n + ((F.state flash.new).faults - (F.state flash.old).faults)) }
@@ -342,11 +378,11 @@ fn try_again<F: Flash>(
         (base_in F.SLOTS (turn_of F.SLOTS (F.state flash.new).words)) F.SLOTS page
         ≡ F.SLOTS - free_slots F.SLOTS place.new) }
     ensures stands { (extra : ℕ) → extra ≤ extra_of F.PAGES F.SLOTS F.SECTORS
-        → WillKeepPace F.PAGES F.SLOTS F.SECTORS F.sector_start (F.state flash.old).words extra place.old
+        → WillPace kept.old F.PAGES F.SLOTS F.SECTORS F.sector_start (F.state flash.old).words extra place.old
         → WillKeepPace F.PAGES F.SLOTS F.SECTORS F.sector_start (F.state flash.new).words extra place.new }
 {
     for _ in 1..TRIES {
-        match write_again(flash, place, page, first, words) {
+        match write_again(flash, place, kept, page, first, words) {
             Ok(()) => return Ok(()),
             Err(DeviceErr::PowerLost) => return Err(DeviceErr::PowerLost),
             Err(DeviceErr::Fault) => {}
@@ -388,6 +424,14 @@ pub fn write_at<F: Flash>(
     ensures gives_up { IsErrOf result DeviceErr.Fault
         → ((F.state flash.old).faults + TRIES ≤ (F.state flash.new).faults)
         ⊎ GivesUp F.PAGES F.SLOTS F.SECTORS F.sector_start page
+        (log_value F.PAGES F.SLOTS F.SECTORS (F.state flash.new) place.new) }
+    // In pace, with a slot beside those of the steps, one Fault is handed on only if the next write begins no later.
+    ensures keeps_on { IsErrOf result DeviceErr.Fault → (extra : ℕ)
+        → IsRoomy F.PAGES F.SLOTS F.SECTORS (extra + failed_since (F.state flash.old) (F.state flash.new))
+        → KeepsPace F.PAGES F.SLOTS F.SECTORS extra place.old
+        → steps_left_of F.PAGES F.SECTORS place.old + place.old.next < F.SLOTS
+        → StaysInArea F.SLOTS (F.state flash.old).words (F.state flash.new).words
+        → MeetsTwoOrStays F.SLOTS (log_value F.PAGES F.SLOTS F.SECTORS (F.state flash.old) place.old)
         (log_value F.PAGES F.SLOTS F.SECTORS (F.state flash.new) place.new) }
     ensures work { Costs (2 * F.PAGES + 40 + F.SECTORS) 2 (F.state flash.old) (F.state flash.new) }
     ensures pause { (extra : ℕ)
@@ -453,10 +497,11 @@ pub fn write_at<F: Flash>(
         → WillKeepPace F.PAGES F.SLOTS F.SECTORS F.sector_start (F.state flash.new).words
         (extra + lost_since (F.state flash.old) (F.state flash.new)) place.new }
 {
-    match write_once(flash, place, page, first, words) {
+    let mut kept = false;
+    match write_once(flash, place, &mut kept, page, first, words) {
         Ok(()) => return Ok(()),
         Err(DeviceErr::PowerLost) => return Err(DeviceErr::PowerLost),
         Err(DeviceErr::Fault) => {}
     }
-    try_again(flash, place, page, first, words)
+    try_again(flash, place, &mut kept, page, first, words)
 }

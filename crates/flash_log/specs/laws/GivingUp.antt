@@ -6,7 +6,7 @@ use Rattle.flash_device.specs.FlashCalls.{FlashState}
 use Rattle.flash_device.specs.FlashLogs.{base_in, turn_of}
 use Rattle.flash_device.specs.PageTables.{AreFree}
 use Rattle.flash_area.specs.Spares.{FindsFurthest, steps_from}
-use Rattle.flash_moves.specs.Paces.{OwnsOlder, extra_of, steps_left}
+use Rattle.flash_moves.specs.Paces.{OwnsOlder, extra_of, move_steps_of, steps_left}
 use Rattle.flash_moves.specs.Places.{log_value}
 use Rattle.flash_log.specs.SlotsInTurn.{GivesUp, IsNextSlot}
 use Rattle.flash_log.specs.laws.TakingTurns.{next_behind, passed_of}
@@ -28,9 +28,9 @@ module _ {T : Type 0} (pages slots sectors : ℕ) where
       → q.turn ≡ turn_of slots s.words → AreFree s.words (base_in slots (turn_of slots s.words)) q.next slots
       → FindsFurthest pages slots sectors start s.words p.turn p.next (extra_of pages slots sectors) p.erased p.copied
       p.older
-      → (OwnsOlder page q → slots ≤ steps_left pages sectors q + q.next)
+      → (OwnsOlder page q → slots ≤ steps_left pages sectors q + q.next) → slots ≤ p.next + move_steps_of pages sectors
       → GivesUp pages slots sectors start page (log_value pages slots sectors s q)
-  gives_up_found start s p q page same ready turn free finds full =
+  gives_up_found start s p q page same ready turn free finds full near =
       let extra = extra_of pages slots sectors in
       let there : FindsFurthest pages slots sectors start s.words q.turn q.next extra q.erased q.copied q.older =
       subst (λ (z : PageMap T). FindsFurthest pages slots sectors start s.words z.turn z.next extra z.erased z.copied
@@ -56,5 +56,6 @@ module _ {T : Type 0} (pages slots sectors : ℕ) where
               let less = far.0 in
               let all = full (inl far.1) in
               omega (arith, less, all, steps);
+          whole = let here = ap (λ (z : PageMap T). z.next) same in omega (arith, near, here);
         };
       }

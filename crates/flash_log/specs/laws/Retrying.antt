@@ -16,6 +16,11 @@ pub err_holds : {T P : Type 0} (r : Result T DeviceErr) → OnErr r P → IsErrO
 err_holds (Ok x) h failed = absurd (true≢false (ap is_ok failed))
 err_holds (Err e) h failed = h
 
+-- what is so behind an error
+pub on_err : {T E P : Type 0} (r : Result T E) → P → OnErr r P
+on_err (Ok x) h = tt
+on_err (Err e) h = h
+
 pub ok_holds : {T E P : Type 0} (r : Result T E) → (IsOk r → P) → OnOk r P
 ok_holds (Ok x) h = h refl
 ok_holds (Err e) h = tt

@@ -604,3 +604,54 @@ returns-clause-steps g c = λ extra roomy same pace due stays.
     let fewer = one.0 in omega (arith, fewer, steps, last_steps))
     (λ (far : s.next + lead_of pages sectors < slots). absurd (omega (arith, far, stepped_next, next, due)))
     ends.fewer
+
+pub returns-clause-ends : goal.returns-clause-ends
+returns-clause-ends g c = λ extra roomy pace.
+    let slots = g.F.Flash.SLOTS in
+    let pages = g.F.Flash.PAGES in
+    let sectors = g.F.Flash.SECTORS in
+    let start = g.F.Flash.sector_start in
+    let old = g.F.Flash.state c.args.flash.now in
+    let found = g.F.Flash.state c.catch_up.new.flash in
+    let p = c.args.place.now in
+    let q = c.catch_up.new.place in
+    let stepped = g.F.Flash.state c.take_step.new.flash in
+    let s = c.take_step.new.place in
+    let ready = c.in_ok-catch_up.ensures.ready in
+    let power = c.in_ok-catch_up.ensures.light.ok refl in
+    let less = power.faults in
+    let more = c.in_ok-take_step.ensures.light.ok refl in
+    let rise = more.faults in
+    let there = c.in_ok-take_step.ensures.ready in
+    let last = g.F.Flash.state c.make_room.new.flash in
+    let most = tries_faults 1 stepped last c.make_room.result c.make_room.ensures.light in
+    let here = ready_caught pages slots sectors extra old found stepped p q s start
+    (WillKeepPace pages slots sectors start old.words extra p)
+    (c.catch_up.ensures.stands extra) ready power c.take_step.ensures.stands rise
+    (omega (arith, roomy, less, rise, most)) (inl pace) in
+    let room = stepped_room pages slots sectors (extra + failed_since old stepped) s
+    (ready_stepped pages slots sectors extra old found stepped p q s start
+    (WillKeepPace pages slots sectors start old.words extra p)
+    (c.catch_up.ensures.stands extra) ready power c.take_step.ensures.stands rise
+    (omega (arith, roomy, less, rise, most)) there more.due (inl pace)) in
+    let still = c.make_room.ensures.same room in
+    let next = c.catch_up.ensures.next pace.ready in
+    let steps = c.in_ok-catch_up.ensures.steps extra (omega (arith, roomy, less, rise, most)) pace in
+    let last_next = ap (λ (z : PageMap _). z.next) still.0 in
+    let last_steps = ap (λ (z : PageMap _). steps_left pages sectors z) still.0 in
+    ⊎_elim
+    (λ (far : p.next + lead_of pages sectors < slots).
+    let idle = c.take_step.ensures.idle (omega (arith, next, far)) in
+    let same = ap (λ (z : PageMap _). z.next) idle.0 in
+    record { fewer = inr (omega (arith, far, next, same, last_next)) })
+    (λ (due : slots ≤ p.next + lead_of pages sectors).
+    let ends = c.in_ok-take_step.ensures.steps (extra + failed_since old found)
+    (omega (arith, roomy, less, rise, most)) here (omega (arith, next, due)) in
+    ⊎_elim
+    (λ (one : (steps_left pages sectors s + 1 ≡ steps_left pages sectors q) × (s.next ≡ q.next)).
+    let fewer = one.0 in
+    let stays = one.1 in
+    record { fewer = inl (omega (arith, fewer, steps, last_steps), omega (arith, stays, next, last_next)) })
+    (λ (far : s.next + lead_of pages sectors < slots). record { fewer = inr (omega (arith, far, last_next)) })
+    ends.fewer)
+    (cases_lt (p.next + lead_of pages sectors) slots)

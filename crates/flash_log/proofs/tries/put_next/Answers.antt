@@ -1,10 +1,15 @@
-use Rattle.std.proofs.Common.{◌≡◌, ◌+◌, ◌-◌, ◌*◌, ℕ, refl, sym, ap, subst, inl, inr, ◌∙◌, arith, true≢false}
+use Rattle.std.proofs.Common.{◌≡◌, ◌<◌, ◌≤◌, ◌+◌, ◌-◌, ◌*◌, ℕ, refl, sym, ap, subst, inl, inr, ⊎_elim, ◌∙◌, arith}
+use Rattle.std.proofs.Common.{true≢false}
+use Rattle.std.proofs.lemmas.Bool.{cases_lt}
+use Rattle.flash_device.specs.declared.layout.TheConstants.{STEP_PAGES}
+use Rattle.flash_log.specs.laws.Keeping.{torn_spare}
 use Rattle.flash_device.specs.FlashCalls.{SameElsewhere}
 use Rattle.flash_device.specs.FlashLogs.{base_in, find, slot_of}
 use Rattle.flash_device.specs.PageTables.{IsPageTable, AreFree}
 use Rattle.flash_moves.specs.Paces.{HasStepped, IsInPaceFrom}
 use Rattle.flash_moves.specs.laws.Catching.{run_in_pace, run_spare}
 use Rattle.flash_moves.specs.laws.Pacing.{paced_put, stepped_paced}
+use Rattle.flash_log.specs.laws.Retrying.{on_err}
 use Rattle.flash_log.specs.laws.TakingTurns.{found_still, found_takes, next_behind, put_in_area, put_takes}
 use Rattle.flash_log.specs.laws.TakingTurns.{tried_takes}
 use Rattle.flash_moves.specs.laws.Turns.{turn_same, ring_same}
@@ -100,7 +105,7 @@ returns-clause-log g c =
         free = subst (λ (b : ℕ). AreFree after b next slots) home c.write_run.ensures.free;
         spare = run_spare entries pages slots sectors start g.met.F.Flash.sectors_rise fit.0 fit.1 fit.2 fit.4 m after
             place known (run_elsewhere g run) (run_held g run) c.args.page c.args.first c.args.words.now c.requires.run
-            c.requires.own c.older_page-older.result c.older_page-older.ensures.one c.older_page-older.ensures.none
+            c.requires.own c.older_page-place.result c.older_page-place.ensures.one c.older_page-place.ensures.none
             c.in_ok-write_run.ensures.done;
       };
     }
@@ -202,3 +207,39 @@ returns-in_err-write_run-clause-turn g c = turn_same g.F.Flash.SLOTS (g.F.Flash.
 pub returns-clause-turn : goal.returns-clause-turn
 returns-clause-turn g c = turn_same g.F.Flash.SLOTS (g.F.Flash.state c.args.flash.now).words
     (g.F.Flash.state c.write_run.new.flash).words c.write_run.ensures.marks
+
+pub returns-in_err-write_run-clause-holds : goal.returns-in_err-write_run-clause-holds
+returns-in_err-write_run-clause-holds g c = on_err c.from_residual.result (λ goes_on.
+    let slots = g.F.Flash.SLOTS in
+    let pages = g.F.Flash.PAGES in
+    let sectors = g.F.Flash.SECTORS in
+    let start = g.F.Flash.sector_start in
+    let entries = g.F.Table.PageTable.entries in
+    let m = (g.F.Flash.state c.args.flash.now).words in
+    let place = c.args.place.now in
+    let known = c.requires.log.known c.requires.ready in
+    let after = (g.F.Flash.state c.write_run.new.flash).words in
+    let fit = g.met.F.Flash.sectors_fit in
+    let home = c.home.ensures.is slots in
+    let run = (goal.at.returns-in_err-write_run-clause-holds g c).After-write_run in
+    let one = c.older_page-place.ensures.one in
+    let none = c.older_page-place.ensures.none in
+    record {
+      turn = known.turn ∙ sym (turn_same slots m after c.write_run.ensures.marks);
+      small = known.small;
+      free = subst (λ (b : ℕ). AreFree after b (place.next + 1) slots) home c.write_run.ensures.free;
+      spare = torn_spare entries pages slots sectors start g.met.F.Flash.sectors_rise fit.0 fit.1 fit.2 fit.4 m after
+          place known (run_elsewhere g run) (run_held g run) c.args.page c.args.first c.args.words.now c.requires.run
+          c.requires.own c.older_page-place.result one none c.write_run.ensures.whole;
+      own = ⊎_elim
+          (λ (lt : c.args.page < STEP_PAGES * place.copied). inr (one lt))
+          (λ (ge : STEP_PAGES * place.copied ≤ c.args.page). inl (none ge))
+          (cases_lt c.args.page (STEP_PAGES * place.copied));
+      goes_on = λ some. let due = goes_on some in omega (arith, due);
+    })
+
+pub returns-in_err-write_run-clause-paces : goal.returns-in_err-write_run-clause-paces
+returns-in_err-write_run-clause-paces g c = on_err c.from_residual.result (λ extra stepped. record {
+  room = let room = stepped.room in omega (arith, room);
+  few = stepped.few;
+})

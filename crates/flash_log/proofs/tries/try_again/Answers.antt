@@ -1,10 +1,16 @@
-use Rattle.std.proofs.Common.{◌≡◌, ◌≤◌, ◌+◌, ◌-◌, ◌*◌, length, Err, refl, ap, inl, inr, subst, ◌∙◌, arith, true≢false}
-use Rattle.std.proofs.Common.{sym}
+use Rattle.std.proofs.Common.{◌≡◌, ◌<◌, ◌≤◌, ◌+◌, ◌-◌, ◌*◌, length, Err, refl, ap}
+use Rattle.std.proofs.Common.{inl, inr, subst, ◌∙◌, arith, true≢false}
+use Rattle.std.proofs.Common.{⊎_elim, sym}
+use Rattle.std.proofs.lemmas.Bool.{cases_lt}
 use Rattle.nvm_board.specs.declared.board.DeviceErr.{DeviceErr}
-use Rattle.flash_device.specs.FlashCalls.{KeepsPower, Tries}
+use Rattle.flash_device.specs.FlashCalls.{FlashState, KeepsPower, Tries}
 use Rattle.flash_device.specs.FlashLogs.{words_of}
 use Rattle.flash_area.specs.laws.Words.{length-words}
+use Rattle.flash_moves.specs.declared.place.PageMap.{PageMap}
+use Rattle.flash_moves.specs.Paces.{steps_left}
 use Rattle.flash_moves.specs.Places.{log_value}
+use Rattle.flash_log.specs.SlotsInTurn.{BeginsBy}
+use Rattle.flash_log.specs.laws.Keeping.{will_stands}
 use Rattle.flash_moves.specs.laws.Lighting.{tries_faults}
 use Rattle.flash_log.specs.laws.Retrying.{tries_behind}
 use Rattle.flash_log.specs.laws.Beginning.{begins_later}
@@ -20,6 +26,8 @@ loop-init g c = record {
   operations = omega arith;
   erases = refl;
   stood = λ extra fits stands. stands;
+  holds = c.requires.keeps;
+  first = λ one. (refl, refl, refl);
   turns = λ n far takes. takes_more g.F.Flash.SLOTS n 0 _ _ _ (omega arith) (takes_none g.F.Flash.SLOTS n _ takes);
   met = omega arith;
   unready = c.requires.unready;
@@ -61,7 +69,10 @@ loop-preserved g c =
       most = omega (arith, met, once);
       operations = omega (arith, before, work);
       erases = c.write_again.ensures.erases ∙ was.erases;
-      stood = λ extra few stands. c.write_again.ensures.stands extra few (was.stood extra few stands);
+      stood = λ extra few stands. c.in-Err-Fault.ensures.keeps (ap Err c.in-Err-Fault.field-0-is) c.if-place.false extra
+          few (was.stood extra few stands);
+      holds = c.in-Err-Fault.ensures.holds (ap Err c.in-Err-Fault.field-0-is) c.if-place.false;
+      first = λ one. absurd (omega (arith, one, met, less));
       turns = λ n far takes.
           let first = was.turns n far takes in
           let few = first.few in
@@ -414,3 +425,38 @@ returns-clause-passes g c = λ failed extra n few stands begins.
     (n + (c.loop.counter - 1)) (n + ((g.F.Flash.state c.loop.flash).faults
     - (g.F.Flash.state c.args.flash.now).faults)) (omega (arith, counted))
     (c.loop.invariant.begun extra n few stands begins)
+
+pub returns-then-place-clause-at_once : goal.returns-then-place-clause-at_once
+returns-then-place-clause-at_once g c = λ failed.
+    let slots = g.F.Flash.SLOTS in
+    let pages = g.F.Flash.PAGES in
+    let sectors = g.F.Flash.SECTORS in
+    let counted = c.loop.invariant.met in
+    let less = c.loop.invariant.steady.faults in
+    let more = tries_faults 0 (g.F.Flash.state c.loop.flash) (g.F.Flash.state c.write_again.new.flash)
+    c.write_again.result c.write_again.ensures.light in
+    let is = ap Err c.in-Err-Fault.field-0-is in
+    ⊎_elim
+    (λ (later : 1 < c.loop.counter). inl (omega (arith, counted, less, more, later)))
+    (λ (one : c.loop.counter ≤ 1).
+    let test = c.loop-test.true in
+    let same = c.loop.invariant.first (omega (arith, one, counted, test)) in
+    inr (
+      (λ kept. subst (λ (p : PageMap g.row.F-Table.Denot). slots ≤ steps_left pages sectors p + p.tried) same.1
+          (c.in-Err-Fault.ensures.full is c.if-place.true (same.2 ∙ kept))),
+      (λ n begins. c.in-Err-Fault.ensures.untried is c.if-place.true n
+          (subst (λ (p : PageMap g.row.F-Table.Denot). BeginsBy slots (log_value pages slots sectors
+          (g.F.Flash.state c.loop.flash) p) n) (sym same.1)
+          (subst (λ (s : FlashState). BeginsBy slots (log_value pages slots sectors s c.args.place.now) n) (sym same.0)
+          begins))),
+    ))
+    (cases_lt 1 c.loop.counter)
+
+pub returns-clause-at_once : goal.returns-clause-at_once
+returns-clause-at_once g c = λ failed. let counted = c.loop.invariant.met in inl (omega (arith, counted))
+
+pub returns-clause-stands : goal.returns-clause-stands
+returns-clause-stands g c = λ extra few will.
+    will_stands g.F.Flash.PAGES g.F.Flash.SLOTS g.F.Flash.SECTORS g.F.Flash.sector_start
+    (g.F.Flash.state c.loop.flash).words c.args.page c.loop.place c.loop.kept extra c.loop.invariant.unready
+    c.loop.invariant.holds (c.loop.invariant.stood extra few will)

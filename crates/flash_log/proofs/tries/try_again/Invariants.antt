@@ -1,9 +1,10 @@
-use Rattle.std.proofs.Common.{◌≡◌, ◌⊎◌, ◌≤◌, ◌+◌, ◌-◌, ◌*◌, ℕ, false}
+use Rattle.std.proofs.Common.{◌≡◌, ◌⊎◌, ◌≤◌, ◌+◌, ◌-◌, ◌*◌, ℕ, false, true}
 use Rattle.nvm_board.specs.History.{written}
 use Rattle.flash_device.specs.FlashCalls.{KeepsPower}
 use Rattle.flash_device.specs.FlashLogs.{turn_of, words_of}
-use Rattle.flash_moves.specs.Paces.{WillKeepPace, extra_of, lead_of}
+use Rattle.flash_moves.specs.Paces.{extra_of, lead_of}
 use Rattle.flash_moves.specs.Places.{IsLog, log_value}
+use Rattle.flash_log.specs.KeptParts.{KeepsPlace, WillPace}
 use Rattle.flash_log.specs.SlotsInTurn.{BeginsBy, TakesInTurn, WillTake}
 use Rattle.flash_log.proofs.tries.try_again.Given as goal
 
@@ -21,8 +22,10 @@ invariant-loop g l =
       operations : new.operations + 2 * old.faults ≤ old.operations + 2 * new.faults;
       erases : new.erases ≡ old.erases;
       stood : (extra : ℕ) → extra ≤ extra_of pages slots sectors
-          → WillKeepPace pages slots sectors start old.words extra l.initial.place
-          → WillKeepPace pages slots sectors start new.words extra l.place;
+          → WillPace l.initial.kept pages slots sectors start old.words extra l.initial.place
+          → WillPace l.kept pages slots sectors start new.words extra l.place;
+      holds : l.kept ≡ true → KeepsPlace pages slots sectors start new.words l.page l.place;
+      first : l.counter ≡ 1 → (new ≡ old) × (l.place ≡ l.initial.place) × (l.kept ≡ l.initial.kept);
       turns : (n : ℕ) → n + lead_of pages sectors ≤ slots
           → WillTake slots (log_value pages slots sectors old l.initial.place) n
           → TakesInTurn slots n (l.counter - 1) (log_value pages slots sectors old l.initial.place)
@@ -31,7 +34,7 @@ invariant-loop g l =
       unready : l.place.ready ≡ false;
       turn : turn_of slots new.words ≡ turn_of slots old.words;
       begun : (extra n : ℕ) → extra ≤ extra_of pages slots sectors
-          → WillKeepPace pages slots sectors start old.words extra l.initial.place
+          → WillPace l.initial.kept pages slots sectors start old.words extra l.initial.place
           → BeginsBy slots (log_value pages slots sectors old l.initial.place) n
           → BeginsBy slots (log_value pages slots sectors new l.place) (n + (l.counter - 1));
       log : IsLog g.F.Table.PageTable.entries pages slots sectors start new.words l.place;

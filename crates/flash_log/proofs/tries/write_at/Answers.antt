@@ -1,5 +1,6 @@
 use Rattle.std.proofs.Common.{◌≡◌, ◌≤◌, ◌+◌, ◌-◌, ◌*◌, ℕ, length, Err, ap, inl, inr, ⊎_elim, arith, true≢false}
-use Rattle.std.proofs.Common.{sym, ◌∙◌}
+use Rattle.std.proofs.Common.{false, true, sym, ◌∙◌}
+use Rattle.std.proofs.lemmas.Bool.{cases_Bool}
 use Rattle.std.proofs.lemmas.Result.{on_ok_weaker}
 use Rattle.flash_device.specs.FlashCalls.{KeepsPower}
 use Rattle.flash_device.specs.FlashLogs.{base_in, words_of}
@@ -7,7 +8,9 @@ use Rattle.flash_area.specs.laws.Words.{length-words}
 use Rattle.flash_moves.specs.Paces.{IsRoomy, StaysInArea, WillKeepPace, failed_since, lost_since}
 use Rattle.flash_moves.specs.Places.{log_value}
 use Rattle.flash_moves.specs.declared.ahead.TheConstants.{TRIES}
+use Rattle.flash_log.specs.KeptParts.{WillPace}
 use Rattle.flash_log.specs.laws.Ending.{will_more}
+use Rattle.flash_log.specs.laws.Keeping.{will_pace_more}
 use Rattle.flash_moves.specs.laws.Lighting.{tries_faults}
 use Rattle.flash_moves.specs.laws.Pacing.{found_so}
 use Rattle.flash_log.specs.SlotsInTurn.{BeginsBy, GivesUp}
@@ -166,9 +169,9 @@ first_stands g c = λ extra roomy stands.
     let due = (first_failed g c).0.due in
     let more = tries_faults 0 mid new c.try_again.result c.try_again.ensures.light in
     c.try_again.ensures.stands (extra + failed_since old mid) (omega (arith, roomy, more))
-    (will_more pages slots sectors start mid.words (extra + lost_since old mid) (extra + failed_since old mid)
-    c.write_once.new.place (omega (arith, due))
-    (c.write_once.ensures.stands extra (omega (arith, roomy, more)) stands))
+    (will_pace_more pages slots sectors start mid.words c.args.page c.write_once.new.place c.write_once.new.kept
+    (extra + lost_since old mid) (extra + failed_since old mid) (omega (arith, due))
+    (c.in-Err-Fault.ensures.keeps (ap Err c.in-Err-Fault.field-0-is) extra (omega (arith, roomy, more)) stands))
 
 pub returns-clause-pause : goal.returns-clause-pause
 returns-clause-pause g c = λ extra roomy.
@@ -293,7 +296,7 @@ first_begins : (g : Over) (c : After-try_again g) (extra n : ℕ)
     (g.F.Flash.state c.args.flash.now) c.args.place.now) n
     → BeginsBy g.F.Flash.SLOTS (log_value g.F.Flash.PAGES g.F.Flash.SLOTS g.F.Flash.SECTORS
     (g.F.Flash.state c.write_once.new.flash) c.write_once.new.place) (n + 1)
-    × WillKeepPace g.F.Flash.PAGES g.F.Flash.SLOTS g.F.Flash.SECTORS g.F.Flash.sector_start
+    × WillPace c.write_once.new.kept g.F.Flash.PAGES g.F.Flash.SLOTS g.F.Flash.SECTORS g.F.Flash.sector_start
     (g.F.Flash.state c.write_once.new.flash).words
     (extra + failed_since (g.F.Flash.state c.args.flash.now) (g.F.Flash.state c.write_once.new.flash))
     c.write_once.new.place
@@ -310,9 +313,9 @@ first_begins g c = λ extra n roomy stands stays begins.
     let still : StaysInArea slots old.words mid.words =
     sym (ap (base_in slots) c.try_again.ensures.turn) ∙ stays in (
       c.write_once.ensures.begins extra n (omega (arith, roomy, more)) stands still begins,
-      will_more pages slots sectors start mid.words (extra + lost_since old mid)
-          (extra + failed_since old mid) c.write_once.new.place (omega (arith, due))
-          (c.write_once.ensures.stands extra (omega (arith, roomy, more)) stands),
+      will_pace_more pages slots sectors start mid.words c.args.page c.write_once.new.place c.write_once.new.kept
+          (extra + lost_since old mid) (extra + failed_since old mid) (omega (arith, due))
+          (c.in-Err-Fault.ensures.keeps (ap Err c.in-Err-Fault.field-0-is) extra (omega (arith, roomy, more)) stands),
     )
 
 pub returns-clause-begins : goal.returns-clause-begins
@@ -354,3 +357,27 @@ pub returns-clause-steps : goal.returns-clause-steps
 returns-clause-steps g c =
     let met = met_fault g (goal.at.returns-clause-steps g c).After-try_again in
     ok_holds c.try_again.result (λ ok extra roomy same. absurd (omega (arith, met, same)))
+
+pub returns-clause-keeps_on : goal.returns-clause-keeps_on
+returns-clause-keeps_on g c = λ failed extra roomy pace room stays.
+    let slots = g.F.Flash.SLOTS in
+    let mid = g.F.Flash.state c.write_once.new.flash in
+    let new = g.F.Flash.state c.try_again.new.flash in
+    let run = (goal.at.returns-clause-keeps_on g c).After-try_again in
+    let met = (first_failed g run).1 in
+    let more = tries_faults 0 mid new c.try_again.result c.try_again.ensures.light in
+    let is = ap Err c.in-Err-Fault.field-0-is in
+    let less : IsRoomy g.F.Flash.PAGES slots g.F.Flash.SECTORS (extra + failed_since
+    (g.F.Flash.state c.args.flash.now) mid) = omega (arith, roomy, more) in
+    ⊎_elim
+    (λ twice. inl (omega (arith, met, twice)))
+    (λ none. ⊎_elim
+    (λ (kept : c.write_once.new.kept ≡ true).
+    let full = none.0 kept in
+    let some = c.in-Err-Fault.ensures.beside is kept extra less pace room in
+    absurd (omega (arith, full, some)))
+    (λ (untried : c.write_once.new.kept ≡ false).
+    inr (λ n begins. none.1 n (c.in-Err-Fault.ensures.untried is untried extra n less (inl pace)
+    (sym (ap (base_in slots) c.try_again.ensures.turn) ∙ stays) begins)))
+    (cases_Bool c.write_once.new.kept))
+    (c.try_again.ensures.at_once failed)

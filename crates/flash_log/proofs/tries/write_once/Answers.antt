@@ -1,5 +1,7 @@
-use Rattle.std.proofs.Common.{◌≡◌, ◌⊎◌, ◌<◌, ◌≤◌, ◌+◌, ◌-◌, ◌*◌, ℕ, Bool, true, List, refl, ap, sym, subst, inl, inr}
-use Rattle.std.proofs.Common.{⊎_elim, ◌∙◌, arith, if◌then◌else◌}
+use Rattle.std.proofs.Common.{◌≡◌, ◌⊎◌, ◌<◌, ◌≤◌, ◌+◌, ◌-◌, ◌*◌, ℕ, Bool, false, true, List}
+use Rattle.std.proofs.Common.{refl, ap, sym, subst, inl, inr}
+use Rattle.std.proofs.Common.{⊎_elim, ◌∙◌, arith, if◌then◌else◌, true≢false}
+use Rattle.std.proofs.lemmas.Bool.{cases_Bool}
 use Rattle.std.proofs.lemmas.Result.{on_ok_weaker}
 use Rattle.nvm_board.specs.History.{written}
 use Rattle.flash_device.specs.FlashBlocks.{steps_of}
@@ -9,11 +11,11 @@ use Rattle.flash_area.specs.Spares.{copies_most}
 use Rattle.flash_moves.specs.Places.{log_value}
 use Rattle.flash_log.specs.SlotsInTurn.{TakesInTurn}
 use Rattle.flash_moves.specs.Paces.{HasStepped, IsBrief, WillKeepPace, extra_slots}
-use Rattle.flash_moves.specs.Paces.{failed_since, free_slots, lead_of, lost_since}
+use Rattle.flash_moves.specs.Paces.{failed_since, free_slots, lead_of, lost_since, steps_left}
 use Rattle.flash_moves.specs.laws.Lighting.{lights_faults, lights_once}
 use Rattle.flash_moves.specs.laws.Pacing.{failed_not_ok, found_so, free_known, free_of, short_then, stands_more}
-use Rattle.flash_moves.specs.laws.Pacing.{stepped_more, stepped_paced}
-use Rattle.flash_log.specs.laws.Retrying.{holds_ok, lights_tries, ok_holds, tries_behind}
+use Rattle.flash_moves.specs.laws.Pacing.{stepped_more, stepped_paced, steps_most}
+use Rattle.flash_log.specs.laws.Retrying.{err_holds, holds_ok, lights_tries, ok_holds, tries_behind}
 use Rattle.flash_log.specs.laws.Beginning.{begins_behind, begins_later, begins_next}
 use Rattle.flash_log.specs.laws.TakingTurns.{far_stepped, finds_takes, finds_then, next_is, put_once, takes_pace}
 use Rattle.flash_log.proofs.tries.write_once.Given.{Over}
@@ -345,3 +347,68 @@ returns-clause-steps g c = ok_holds c.put_next.result (λ ok extra roomy same pa
     let one = c.in_ok-prepare.ensures.steps extra roomy (omega (arith, same, less, more)) pace due
     (sym (ap (base_in slots) c.put_next.ensures.turn) ∙ stays) in
     omega (arith, step, one))
+
+pub returns-clause-holds : goal.returns-clause-holds
+returns-clause-holds g c = λ failed kept.
+    err_holds c.put_next.result c.put_next.ensures.holds failed (c.goes_on.ensures.yes kept)
+
+-- In pace the move that is under way is due.
+put_goes_on : (g : Over) (c : After-put_next g) → (extra : ℕ)
+    → HasStepped g.F.Flash.PAGES g.F.Flash.SLOTS g.F.Flash.SECTORS extra c.prepare.new.place
+    → c.goes_on.result ≡ true
+put_goes_on g c = λ extra stepped. ⊎_elim
+    (λ (yes : c.goes_on.result ≡ true). yes)
+    (λ (no : c.goes_on.result ≡ false).
+    let early = c.goes_on.ensures.no no in
+    let due = stepped.goes_on early.0 in
+    let late = early.1 in
+    absurd (omega (arith, due, late)))
+    (cases_Bool c.goes_on.result)
+
+pub returns-clause-keeps : goal.returns-clause-keeps
+returns-clause-keeps g c = λ failed extra roomy pace.
+    let old = g.F.Flash.state c.args.flash.now in
+    let mid = g.F.Flash.state c.prepare.new.flash in
+    let new = g.F.Flash.state c.put_next.new.flash in
+    let more = lights_faults mid new c.put_next.result c.put_next.ensures.light in
+    let given = extra + lost_since old new in
+    let run = (goal.at.returns-clause-keeps g c).After-put_next in
+    let stepped = (c.in_ok-prepare.ensures.pause extra (omega (arith, roomy, more))).stays pace refl in
+    record {
+      known = λ e. err_holds c.put_next.result c.put_next.ensures.paces failed given
+          (stepped_more g.F.Flash.PAGES g.F.Flash.SLOTS g.F.Flash.SECTORS (extra + failed_since old mid) given
+          c.prepare.new.place (omega (arith, more)) stepped);
+      looks = λ e. absurd (true≢false (sym (put_goes_on g run (extra + failed_since old mid) stepped) ∙ e));
+    }
+
+pub returns-clause-untried : goal.returns-clause-untried
+returns-clause-untried g c = λ failed kept extra n roomy pace.
+    let old = g.F.Flash.state c.args.flash.now in
+    let mid = g.F.Flash.state c.prepare.new.flash in
+    let new = g.F.Flash.state c.put_next.new.flash in
+    let more = lights_faults mid new c.put_next.result c.put_next.ensures.light in
+    let stepped = (c.in_ok-prepare.ensures.pause extra (omega (arith, roomy, more))).stays pace refl in
+    absurd (true≢false (sym (put_goes_on g (goal.at.returns-clause-untried g c).After-put_next
+    (extra + failed_since old mid) stepped) ∙ kept))
+
+pub returns-clause-beside : goal.returns-clause-beside
+returns-clause-beside g c = λ failed kept extra roomy pace room.
+    let slots = g.F.Flash.SLOTS in
+    let pages = g.F.Flash.PAGES in
+    let sectors = g.F.Flash.SECTORS in
+    let mid = g.F.Flash.state c.prepare.new.flash in
+    let new = g.F.Flash.state c.put_next.new.flash in
+    let p = c.args.place.now in
+    let q = c.prepare.new.place in
+    let more = lights_faults mid new c.put_next.result c.put_next.ensures.light in
+    let step = c.put_next.ensures.step in
+    let tried = c.put_next.ensures.tried in
+    ⊎_elim
+    (λ (one : (steps_left pages sectors q + 1 ≡ steps_left pages sectors p) × (q.next ≡ p.next)).
+    let fewer = one.0 in
+    let next = one.1 in
+    omega (arith, step, tried, fewer, next, room))
+    (λ (far : q.next + lead_of pages sectors < slots).
+    let most = steps_most pages slots sectors q in
+    omega (arith, step, tried, far, most))
+    ((c.in_ok-prepare.ensures.ends extra (omega (arith, roomy, more)) pace).fewer)

@@ -243,3 +243,8 @@ pub returns-else-self-3-clause-passes : goal.returns-else-self-3-clause-passes
 returns-else-self-3-clause-passes g c = λ failed.
     let is : IsErrOf c.write-ended.result Fault = search rules in
     c.write-ended.ensures.passes is
+
+pub returns-else-self-3-clause-keeps_on : goal.returns-else-self-3-clause-keeps_on
+returns-else-self-3-clause-keeps_on g c = λ failed.
+    let is : IsErrOf c.write-ended.result Fault = search rules in
+    c.write-ended.ensures.keeps_on is
