@@ -270,3 +270,33 @@ fn no_fault_makes_a_later_write_long(rt: HostRuntime) -> Result<(), Fail> {
     check_words(flash, &words)?;
     Ok(())
 }
+
+#[test]
+fn a_record_that_fails_in_a_move_is_in_the_next_slot(rt: HostRuntime) -> Result<(), Fail> {
+    // Operations 33 to 36 of a write that copies 16 pages are those of its record, or of the page it copies again.
+    for at in 33..37u32 {
+        let mut words = vec![in rt.alloc(); 0u32; 1024]?;
+        let mut flash = SimFlash::new(rt.alloc(), 9)?;
+        format_flash(&mut flash)?;
+        let mut all = 0u64;
+        let mut steps = 0u32;
+        for k in 0..1536u32 {
+            // Behind the ninth step one page is left that differs from its copy: a look would find that the move could
+            // end, but for that page.
+            let page = if k % 145 == 144 { 148 } else { k % 145 };
+            let failed = if steps == 8 { at } else { 0 };
+            let (next, count, faults) = failed_session(flash, page as u16, k, failed)?;
+            flash = next;
+            all = all.saturating_add(faults);
+            steps = if count > COPIES {
+                steps.saturating_add(1)
+            } else {
+                0
+            };
+            note_word(&mut words, page as usize, k);
+        }
+        assert!(rt; all > 0);
+        check_words(flash, &words)?;
+    }
+    Ok(())
+}
