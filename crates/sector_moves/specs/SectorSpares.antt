@@ -25,6 +25,12 @@ spare_slots slots sectors start turn n = slots_before start (spare_in slots turn
 abbrev pub spare_slot : ℕ → ℕ → (ℕ → ℕ) → ℕ → ℕ → ℕ
 spare_slot slots sectors start turn n = slot_from start (spare_in slots turn) (spare_sector sectors turn + n)
 
+-- The sector of each step holds so many slots behind those of its pages: one for a page that is copied again, and
+-- those that may fail.
+pub record HoldsSlots (pages slots sectors : ℕ) (start : ℕ → ℕ) (t : ℕ) : Type 0 where
+  pub each : (turn n : ℕ) → n < steps_of pages
+      → spare_slot slots sectors start turn n + STEP_PAGES + t ≤ spare_slots slots sectors start turn (n + 1)
+
 -- By its first slots, an area has the first so many pages of these words, but for one page at most, whose copy may be
 -- older: its number and 1, or 0. It has no later page that the area in use lacks.
 pub record HasSectorCopies (pages slots : ℕ) (m words : List ℕ) (home base below copied older : ℕ) : Type 0 where

@@ -1,25 +1,58 @@
 //! A sector of the other area is erased, and filled with copies of pages.
-ghost use Rattle.std.specs.Prelude.{◌≡◌, ◌≢◌, ◌<◌, ◌≤◌, ◌+◌, ◌-◌, ◌*◌, ℕ, List, false, slice_index, IfOk, OnOk};
+ghost use Rattle.std.specs.Prelude.{◌≡◌, ◌≢◌, ◌⊎◌, ◌<◌, ◌≤◌, ◌+◌, ◌-◌, ◌*◌, ℕ, List, false, slice_index, IfOk};
+ghost use Rattle.std.specs.Prelude.{IsErrOf, OnOk};
+ghost use Rattle.nvm_board.specs.declared.board.DeviceErr.TheVariants as DeviceErr;
 ghost use Rattle.flash_device.specs.FlashBlocks.{steps_of};
 ghost use Rattle.flash_device.specs.FlashCalls.{Costs, SameElsewhere, Tries};
-ghost use Rattle.flash_device.specs.FlashLogs.{base_in, find, slot_of, turn_of, words_of};
+ghost use Rattle.flash_device.specs.FlashLogs.{base_in, find, page_word, slot_of, turn_of, words_of};
 ghost use Rattle.flash_device.specs.PageTables.{IsPageTable, AreFree};
 ghost use Rattle.flash_device.specs.PutRecords.{IsPut};
 ghost use Rattle.flash_device.specs.declared.layout.TheConstants.{STEP_PAGES};
 ghost use Rattle.flash_area.specs.PageCopies.{KeepsOthers};
 ghost use Rattle.flash_area.specs.Spares.{spare_in, spare_sector};
 ghost use Rattle.flash_moves.specs.Rings.{IsRing};
-ghost use Rattle.sector_moves.specs.SectorSpares.{HasSectorCopies, HasStepCopies, PutsPage, SpendsSlots};
+ghost use Rattle.flash_moves.specs.declared.ahead.TheConstants.{TRIES};
+ghost use Rattle.sector_moves.specs.SectorSpares.{HasSectorCopies, HasStepCopies, HoldsSlots, PutsPage, SpendsSlots};
 ghost use Rattle.sector_moves.specs.declared.filling.TheConstants.{STEP_SLOTS};
 
 use crate::layout::{spare_slot, spare_slots};
 use crate::sector_flash::SectorFlash;
 use flash_area::{Record, first_sector_of_spare, home, program_record, record_of, spare};
 use flash_device::{Flash, PageTable, STEP_PAGES, slot_at};
+use flash_moves::TRIES;
 use nvm_board::DeviceErr;
 
 /// The most slots that a step takes in its sector, for the copies of up to 17 pages. The others are those that fail.
 pub const STEP_SLOTS: u16 = 23;
+
+/// Reads the record of a page as it is. A Fault of the flash is returned only if as many tries failed.
+fn read_record<F: Flash>(
+    flash: &mut F,
+    area: u8,
+    table: &F::Table,
+    page: u16,
+) -> Result<Record, DeviceErr>
+    requires lit { (F.state flash.old).dark ≡ false }
+    requires entry { slice_index (F.Table.entries table.now) page
+        ≡ find (F.state flash.old).words (base_in F.SLOTS area) F.SLOTS page }
+    requires page { page < F.PAGES }
+    ensures each { IfOk result (λ r. (k : ℕ) → k < 16
+        → slice_index r k ≡ page_word (F.state flash.old).words (base_in F.SLOTS area) F.SLOTS page k) }
+    ensures names { IfOk result (λ r. slice_index r 16 ≡ page) }
+    ensures unused { IfOk result (λ r. slice_index r 17 ≡ 0) }
+    ensures words { (F.state flash.new).words ≡ (F.state flash.old).words }
+    ensures work { (F.state flash.new).operations ≡ (F.state flash.old).operations }
+    ensures erases { (F.state flash.new).erases ≡ (F.state flash.old).erases }
+    ensures light { Tries TRIES (F.state flash.old) (F.state flash.new) result }
+{
+    for _ in 1..TRIES {
+        match record_of(flash, area, table, page) {
+            Err(DeviceErr::Fault) => {}
+            ended => return ended,
+        }
+    }
+    record_of(flash, area, table, page)
+}
 
 /// Puts a record into the first slot from `next` on that takes it, below `end`. A slot that fails is passed over.
 fn put_in_sector<F: Flash>(
@@ -40,7 +73,9 @@ fn put_in_sector<F: Flash>(
         → AreFree (F.state flash.old).words (base_in F.SLOTS area) next below
         → KeepsOthers below (F.state flash.old).words (base_in F.SLOTS area) (slice_index words.now 16)
         (F.state flash.new).words (s + 1)) }
-    ensures light { Tries 1 (F.state flash.old) (F.state flash.new) result }
+    // A Fault is returned only if each of the slots failed.
+    ensures light { Tries (end - next) (F.state flash.old) (F.state flash.new) result }
+    ensures passes { IfOk result (λ s. s + (F.state flash.old).faults ≤ next + (F.state flash.new).faults) }
     ensures work { Costs 2 2 (F.state flash.old) (F.state flash.new) }
     ensures spends { IfOk result (λ s. SpendsSlots next (s + 1) (F.state flash.old) (F.state flash.new)) }
     ensures within { SpendsSlots next end (F.state flash.old) (F.state flash.new) }
@@ -79,12 +114,17 @@ fn put_page<F: Flash>(
         → PutsPage F.SLOTS (F.state flash.old).words (base_in F.SLOTS turn) (spare_in F.SLOTS turn) below page
         (F.state flash.new).words n) }
     ensures light { Tries 1 (F.state flash.old) (F.state flash.new) result }
+    // Each slot that it passes over failed. It fails only if a read failed in each try, or a program in each slot.
+    ensures passes { IfOk result (λ n. n + (F.state flash.old).faults ≤ next + 1 + (F.state flash.new).faults) }
+    ensures keeps_trying { IsErrOf result DeviceErr.Fault
+        → ((F.state flash.old).faults + TRIES ≤ (F.state flash.new).faults)
+        ⊎ ((F.state flash.old).faults + (end - next) ≤ (F.state flash.new).faults) }
     ensures work { Costs 2 2 (F.state flash.old) (F.state flash.new) }
     ensures spends { IfOk result (λ n. SpendsSlots next n (F.state flash.old) (F.state flash.new)) }
     ensures within { SpendsSlots next end (F.state flash.old) (F.state flash.new) }
     ensures erases { (F.state flash.new).erases ≡ (F.state flash.old).erases }
 {
-    let found = record_of(flash, home(turn), table, page)?;
+    let found = read_record(flash, home(turn), table, page)?;
     let slot = put_in_sector(flash, spare(turn), next, end, &found)?;
     Ok(slot + 1)
 }
@@ -118,6 +158,11 @@ fn put_older<F: Flash>(
         → HasSectorCopies F.PAGES F.SLOTS (F.state flash.new).words words (base_in F.SLOTS turn)
         (spare_in F.SLOTS turn) below copied 0) }
     ensures light { Tries 1 (F.state flash.old) (F.state flash.new) result }
+    // Each slot that it passes over failed. It fails only if a read failed in each try, or a program in each slot.
+    ensures passes { IfOk result (λ n. n + (F.state flash.old).faults ≤ next + 1 + (F.state flash.new).faults) }
+    ensures keeps_trying { IsErrOf result DeviceErr.Fault
+        → ((F.state flash.old).faults + TRIES ≤ (F.state flash.new).faults)
+        ⊎ ((F.state flash.old).faults + (end - next) ≤ (F.state flash.new).faults) }
     ensures work { Costs 2 2 (F.state flash.old) (F.state flash.new) }
     ensures spends { IfOk result (λ n. SpendsSlots next n (F.state flash.old) (F.state flash.new)) }
     ensures within { SpendsSlots next end (F.state flash.old) (F.state flash.new) }
@@ -160,6 +205,11 @@ fn copy_page<F: Flash>(
         → HasSectorCopies F.PAGES F.SLOTS (F.state flash.new).words words (base_in F.SLOTS turn)
         (spare_in F.SLOTS turn) below (page + 1) 0) }
     ensures light { Tries 1 (F.state flash.old) (F.state flash.new) result }
+    // Each slot that it passes over failed. It fails only if a read failed in each try, or a program in each slot.
+    ensures passes { IfOk result (λ n. n + (F.state flash.old).faults ≤ next + 1 + (F.state flash.new).faults) }
+    ensures keeps_trying { IsErrOf result DeviceErr.Fault
+        → ((F.state flash.old).faults + TRIES ≤ (F.state flash.new).faults)
+        ⊎ ((F.state flash.old).faults + (end - next) ≤ (F.state flash.new).faults) }
     ensures work { Costs 2 2 (F.state flash.old) (F.state flash.new) }
     ensures spends { IfOk result (λ n. SpendsSlots next n (F.state flash.old) (F.state flash.new)) }
     ensures within { SpendsSlots next end (F.state flash.old) (F.state flash.new) }
@@ -197,6 +247,10 @@ fn copy_pages<F: Flash>(
         → HasSectorCopies F.PAGES F.SLOTS (F.state flash.new).words words (base_in F.SLOTS turn)
         (spare_in F.SLOTS turn) below (first + STEP_PAGES) 0) }
     ensures light { Tries 1 (F.state flash.old) (F.state flash.new) result }
+    // It fails only if a read failed in each try, or a program in each slot that the other pages leave over.
+    ensures keeps_trying { IsErrOf result DeviceErr.Fault
+        → ((F.state flash.old).faults + TRIES ≤ (F.state flash.new).faults)
+        ⊎ ((F.state flash.old).faults + (end - next) + 1 ≤ (F.state flash.new).faults + STEP_PAGES) }
     ensures work { Costs 32 2 (F.state flash.old) (F.state flash.new) }
     ensures within { SpendsSlots next end (F.state flash.old) (F.state flash.new) }
     ensures erases { (F.state flash.new).erases ≡ (F.state flash.old).erases }
@@ -239,6 +293,11 @@ pub fn fill_sector<F: SectorFlash>(
         turn step older
         → HasStepCopies F.PAGES F.SLOTS F.SECTORS F.sector_start (F.state flash.new).words turn (step + 1) 0) }
     ensures light { Tries 1 (F.state flash.old) (F.state flash.new) result }
+    // Behind fewer Faults than its sector has slots over, up to seven, it fails only if its erase did, and nothing else
+    // was begun.
+    ensures keeps_trying { (t : ℕ) → t < TRIES → HoldsSlots F.PAGES F.SLOTS F.SECTORS F.sector_start t
+        → IsErrOf result DeviceErr.Fault → ((F.state flash.old).faults + t ≤ (F.state flash.new).faults)
+        ⊎ ((F.state flash.new).operations ≤ (F.state flash.old).operations + 1) }
     ensures work { Costs 35 2 (F.state flash.old) (F.state flash.new) }
     // However often the flash fails, it erases the sector, and programs two times for each of these slots.
     ensures most { (F.state flash.new).operations ≤ (F.state flash.old).operations + 1 + 2 * STEP_SLOTS }

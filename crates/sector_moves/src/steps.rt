@@ -1,12 +1,12 @@
 //! The steps of a move: each erases one sector of the other area, and the last one passes the turn to it.
-ghost use Rattle.std.specs.Prelude.{◌≡◌, ◌≢◌, ◌⊎◌, ◌<◌, ◌≤◌, ◌+◌, true, false, IsErrOf, OnErr, OnOk};
+ghost use Rattle.std.specs.Prelude.{◌≡◌, ◌≢◌, ◌⊎◌, ◌<◌, ◌≤◌, ◌+◌, ℕ, true, false, IsErrOf, OnErr, OnOk};
 ghost use Rattle.nvm_board.specs.declared.board.DeviceErr.TheVariants as DeviceErr;
 ghost use Rattle.flash_device.specs.FlashBlocks.{steps_of};
 ghost use Rattle.flash_device.specs.FlashCalls.{Costs, Tries};
 ghost use Rattle.flash_device.specs.FlashLogs.{words_of};
 ghost use Rattle.flash_moves.specs.declared.ahead.TheConstants.{TRIES};
 ghost use Rattle.sector_moves.specs.SectorPlaces.{EndsSectorStep, HasTakenStep, IsSectorLog, StaysAtStep};
-ghost use Rattle.sector_moves.specs.SectorSpares.{HasMovedSteps, last_sectors, sector_lead};
+ghost use Rattle.sector_moves.specs.SectorSpares.{HasMovedSteps, HoldsSlots, last_sectors, sector_lead};
 ghost use Rattle.sector_moves.specs.SectorSpares.{spare_slot as spare_slot_of};
 
 use crate::filling::fill_sector;
@@ -112,6 +112,10 @@ fn end_move<F: SectorFlash>(flash: &mut F, place: &mut PageMap<F::Table>) -> Res
     ensures stays { OnErr result (place.new.ready ≡ true → StaysAtStep place.old place.new) }
     ensures unread { IsErrOf result DeviceErr.Fault → place.new.ready ≡ false
         → (F.state flash.old).faults + TRIES ≤ (F.state flash.new).faults }
+    // If it fails, the mark did, and the other area still has all pages; or each look for the turn failed.
+    ensures keeps_trying { IsErrOf result DeviceErr.Fault
+        → ((F.state flash.old).faults + TRIES ≤ (F.state flash.new).faults)
+        ⊎ HasMovedSteps F.PAGES F.SLOTS F.SECTORS F.sector_start (F.state flash.new).words place.old.turn }
     ensures next { OnOk result (place.new.next
         ≡ spare_slot_of F.SLOTS F.SECTORS F.sector_start place.old.turn (steps_of F.PAGES)) }
     ensures light { Tries 1 (F.state flash.old) (F.state flash.new) result }
@@ -181,6 +185,12 @@ fn fill_next<F: SectorFlash>(flash: &mut F, place: &mut PageMap<F::Table>) -> Re
     ensures stays { OnErr result (place.new.ready ≡ true → StaysAtStep place.old place.new) }
     ensures unread { IsErrOf result DeviceErr.Fault → place.new.ready ≡ false
         → (F.state flash.old).faults + TRIES ≤ (F.state flash.new).faults }
+    // Behind fewer Faults than its sector has slots over, up to seven, it fails only in two cases. Its erase failed,
+    // and nothing else was begun; or the mark failed that passes the turn, and the other area has all pages.
+    ensures keeps_trying { (t : ℕ) → t < TRIES → HoldsSlots F.PAGES F.SLOTS F.SECTORS F.sector_start t
+        → IsErrOf result DeviceErr.Fault → ((F.state flash.old).faults + t ≤ (F.state flash.new).faults)
+        ⊎ (((F.state flash.new).operations ≤ (F.state flash.old).operations + 1)
+        ⊎ HasMovedSteps F.PAGES F.SLOTS F.SECTORS F.sector_start (F.state flash.new).words place.old.turn) }
     // The next slot stays, or a move has ended, and all slots behind those of its steps are free.
     ensures next { OnOk result ((place.new.next ≡ place.old.next) ⊎ (place.new.next
         ≡ spare_slot_of F.SLOTS F.SECTORS F.sector_start place.old.turn (steps_of F.PAGES))) }
@@ -217,6 +227,14 @@ pub fn take_step<F: SectorFlash>(
     // If it fails, and the pages are not known again, many more calls failed.
     ensures unread { IsErrOf result DeviceErr.Fault → place.new.ready ≡ false
         → (F.state flash.old).faults + TRIES ≤ (F.state flash.new).faults }
+    // If it has a page to copy again: behind fewer Faults than its sector has slots over, up to seven, it fails only in
+    // two cases. Its erase failed, and nothing else was begun; or the mark failed that passes the turn, and the other
+    // area has all pages.
+    ensures keeps_trying { (t : ℕ) → t < TRIES → HoldsSlots F.PAGES F.SLOTS F.SECTORS F.sector_start t
+        → place.old.older ≢ 0 → IsErrOf result DeviceErr.Fault
+        → ((F.state flash.old).faults + t ≤ (F.state flash.new).faults)
+        ⊎ (((F.state flash.new).operations ≤ (F.state flash.old).operations + 1)
+        ⊎ HasMovedSteps F.PAGES F.SLOTS F.SECTORS F.sector_start (F.state flash.new).words place.old.turn) }
     ensures idle { place.old.next + sector_lead F.SECTORS < F.SLOTS
         → (place.new ≡ place.old) × (F.state flash.new ≡ F.state flash.old) }
     // The next slot stays, or a move has ended, and all slots behind those of its steps are free.

@@ -439,6 +439,33 @@ module _ (pages slots sectors : ℕ) (start : ℕ → ℕ) where
             (block_area slots m after (spare_in slots turn)
             (pass_block pages slots m after turn behind ring is small other moved_copies h)) behind moved_free
 
+        -- the other area keeps the copies of all steps
+        pub pass_steps : HasMovedSteps pages slots sectors start after turn
+        pass_steps =
+            let home = pass_home pages slots m after turn behind ring is small other moved_copies h in
+            let block = pass_block pages slots m after turn behind ring is small other moved_copies h in
+            let words = pass_words pages slots m after turn behind ring is small other moved_copies h in
+            let steps = steps_of pages in
+            let below = spare_slots slots sectors start turn steps in
+            let ends = slots_end turn steps in
+            let top = sector_to turn steps (omega (arith, left)) in
+            let area : SameArea below m after (spare_in slots turn) = record {
+              each = λ k low high. block.each k low (omega (arith, high, ends, top));
+            } in
+            let at = last_start pages sectors start turn 0 in
+            let from = sector_from turn (steps + 0) in
+            let to = sector_to turn (steps + last_sectors pages sectors) (omega (arith, left)) in record {
+              copies = subst (λ (l : List ℕ). HasSectorCopies pages slots after l (base_in slots turn)
+                  (spare_in slots turn) below (STEP_PAGES * steps) 0) (sym words)
+                  (copies_stay pages slots m after (words_of pages slots m) (base_in slots turn) (spare_in slots turn)
+                  below (STEP_PAGES * steps) 0 area
+                  (λ p none. sym (area_found slots m after (base_in slots turn) home p) ∙ none) moved.copies);
+              blank = record {
+                each = λ k few. block.each (at + k) (omega (arith, from)) (omega (arith, few, to))
+                    ∙ moved.blank.each k few;
+              };
+            }
+
         pub pass_has_ring : IsRing slots after
         pass_has_ring = pass_ring pages slots m after turn behind ring is small other moved_copies h
 

@@ -66,6 +66,8 @@ loop-k-preserved g c =
     let most = c.in_ok-free.ensures.most in
     let least = was.least in
     let room = was.room in
+    let passed = was.passes in
+    let passes = c.in_ok-free.ensures.passes in
     let some = c.requires.some in
     let within : SameElsewhere m base (20 * slots) mid =
     in_slots slots m mid base a.next a.end (omega (arith, some)) some.1 was.elsewhere in
@@ -86,6 +88,7 @@ loop-k-preserved g c =
       spends = omega (arith, was.spends, c.in_ok-free.ensures.spends);
       erases = c.copy_page.ensures.erases ∙ was.erases;
       least = omega (arith, least, most);
+      passes = omega (arith, passed, passes);
       room = omega (arith, most, some);
       elsewhere = elsewhere_then m mid after at size was.elsewhere
           (elsewhere_wider mid after (slot_of base free) (20 * (end - free)) at size (omega (arith, least))

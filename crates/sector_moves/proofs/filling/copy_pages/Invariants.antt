@@ -20,6 +20,7 @@ invariant-loop-k g l =
       spends : SpendsSlots l.next l.free old new;
       erases : new.erases ≡ old.erases;
       least : l.next ≤ l.free;
+      passes : l.free + old.faults ≤ l.next + l.k + new.faults;
       room : l.free + STEP_PAGES ≤ l.end + l.k;
       elsewhere : SameElsewhere old.words (slot_of base l.next) (20 * (l.end - l.next)) new.words;
       rest : (below : ℕ) → l.end ≤ below → AreFree old.words base l.next below

@@ -57,7 +57,7 @@ program_record-requires-clause-lit g c = c.loop-slot.invariant.lit
 pub program_record-requires-clause-blank : goal.program_record-requires-clause-blank
 program_record-requires-clause-blank g c =
     subst (λ (k : ℕ). AreFilled (g.F.Flash.state c.loop-slot.flash).words k 20 BLANK) (sym c.slot_at.ensures.is)
-    (c.loop-slot.invariant.free.free c.loop-slot.slot (omega arith) c.loop-slot-test.true)
+    (c.loop-slot.invariant.free.free c.loop-slot.slot (omega arith) (omega (arith, c.loop-slot-test.true)))
 
 pub returns-in-Ok-clause-elsewhere : goal.returns-in-Ok-clause-elsewhere
 returns-in-Ok-clause-elsewhere g c = elsewhere g (goal.at.returns-in-Ok-clause-elsewhere g c).After-program_record
@@ -112,7 +112,7 @@ loop-slot-preserved g c =
       spends = omega (arith, work, was.spends);
       erases = c.program_record.ensures.erases ∙ was.erases;
       elsewhere = elsewhere g try;
-      free = behind_free c.args.end mid after base s words put lt was.free size;
+      free = behind_free c.args.end mid after base s words put (omega (arith, lt)) was.free size;
       kept = λ below le are.
           let kept = was.kept below le are in
           let inside : s < below = omega (arith, lt, le) in

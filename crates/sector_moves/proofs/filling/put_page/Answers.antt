@@ -17,10 +17,10 @@ returns-clause-puts g c = λ below le are.
     let base = spare_in slots a.turn in
     let s = c.in_ok-slot.slot in
     let put = c.in_ok-slot.ensures.put in
-    let same = c.record_of.ensures.words in
+    let same = c.read_record.ensures.words in
     let at : base_in slots c.spare.result ≡ base = c.spare.ensures.is slots in
-    let free : AreFree (g.F.Flash.state c.record_of.new.flash).words (base_in slots c.spare.result) a.next below =
-    subst (λ (b : ℕ). AreFree (g.F.Flash.state c.record_of.new.flash).words b a.next below) (sym at)
+    let free : AreFree (g.F.Flash.state c.read_record.new.flash).words (base_in slots c.spare.result) a.next below =
+    subst (λ (b : ℕ). AreFree (g.F.Flash.state c.read_record.new.flash).words b a.next below) (sym at)
     (subst (λ (l : List ℕ). AreFree l base a.next below) (sym same) are) in
     let is_put : IsPut after (slot_of base s) words =
     subst (λ (b : ℕ). IsPut after (slot_of b s) words) at put.2 in
