@@ -281,10 +281,12 @@ impl<F: SectorFlash> Board for SectorBoard<F> {
             → ((sector_state self.old).flash.faults + TRIES ≤ (sector_state self.new).flash.faults)
             × ((sector_state self.new).free + TRIES ≤ (sector_state self.old).free) }
         // In a move too it fails only if more tries did than slots were free beside those of the steps, or eight; or if
-        // a step failed that has yet to copy another page again.
+        // a step failed that has yet to copy another page again. Such a step ends at fewer Faults than its sector has
+        // slots over, up to seven, only if nothing but its erase was begun, or at the mark that passes the turn.
         ensures keeps_trying { (k : ℕ) → IsErrOf result DeviceErr.Fault → 0 < (sector_state self.old).free
             → (sector_state self.old).steps + k ≤ (sector_state self.old).free
-            → GivesUpBehind page k (sector_state self.old) (sector_state self.new) }
+            → GivesUpBehind F.PAGES F.SLOTS F.SECTORS F.sector_start page k (sector_state self.old)
+            (sector_state self.new) }
         // Behind it, no fewer slots are free beside those of the steps than before, or than eight, but for one for each
         // Fault.
         ensures beside { 0 < (sector_state self.old).free → 0 < (sector_state self.new).free

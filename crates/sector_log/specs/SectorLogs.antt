@@ -7,7 +7,7 @@ use Rattle.flash_moves.specs.Paces.{free_slots, is_fresh}
 use Rattle.flash_moves.specs.Places.{state_of}
 use Rattle.flash_device.specs.FlashLogs.{turn_of}
 use Rattle.sector_moves.specs.SectorPlaces.{place_steps}
-use Rattle.sector_moves.specs.SectorSpares.{HasOlderCopy, IsSectorSpare, sector_steps}
+use Rattle.sector_moves.specs.SectorSpares.{HasMovedSteps, HasOlderCopy, HoldsSlots, IsSectorSpare, sector_steps}
 
 -- All that contracts know of a log: its flash, with the words of the board in place of its own, whether it has yet to
 -- look for its pages, and has tried no slot, up to which slot writes were tried, the free slots of the area in use that
@@ -67,18 +67,23 @@ pub record FindsSteps (pages slots sectors : ℕ) (start : ℕ → ℕ) (l : Sec
   pub older : HasOlderCopy slots sectors start l.raw (turn_of slots l.raw) shows.copied l.older
 
 -- A write stops at its step: the copy of another page may be older, and the step that copies it again failed. No step
--- is taken, and no slot is passed over.
-pub record StopsAtStep (page : ℕ) (old new : SectorLogState) : Type 0 where
+-- is taken, and no slot is passed over. Behind fewer faults than its sector has slots over, up to seven, it fails only
+-- where nothing but its erase was begun, or the other area has all pages: then the mark is left that passes the turn.
+pub record StopsAtStep (pages slots sectors : ℕ) (start : ℕ → ℕ) (page : ℕ) (old new : SectorLogState)
+    : Type 0 where
   pub some : old.older ≢ 0
   pub other : old.older ≢ page + 1
   pub older : new.older ≡ old.older
   pub steps : new.steps ≡ old.steps
   pub free : new.free ≡ old.free
+  pub why : (t : ℕ) → t < TRIES → HoldsSlots pages slots sectors start t
+      → (old.flash.faults + t ≤ new.flash.faults) ⊎ ((new.flash.operations ≤ old.flash.operations + 1)
+      ⊎ HasMovedSteps pages slots sectors start new.raw (turn_of slots new.raw))
 
 -- A write gives up behind eight faults, or behind more than these, or stops at its step.
-abbrev pub GivesUpBehind : ℕ → ℕ → SectorLogState → SectorLogState → Type 0
-GivesUpBehind page k old new = (old.flash.faults + TRIES ≤ new.flash.faults)
-    ⊎ ((old.flash.faults + k < new.flash.faults) ⊎ StopsAtStep page old new)
+abbrev pub GivesUpBehind : ℕ → ℕ → ℕ → (ℕ → ℕ) → ℕ → ℕ → SectorLogState → SectorLogState → Type 0
+GivesUpBehind pages slots sectors start page k old new = (old.flash.faults + TRIES ≤ new.flash.faults)
+    ⊎ ((old.flash.faults + k < new.flash.faults) ⊎ StopsAtStep pages slots sectors start page old new)
 
 -- Beside the slots of the steps, no fewer are free than before, or than the tries of a write, but for one for each
 -- fault of the flash.

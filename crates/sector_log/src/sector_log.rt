@@ -188,9 +188,11 @@ impl<F: SectorFlash> SectorLog<F> {
         ensures gives_up { IsErrOf result DeviceErr.Fault → sector_lead F.SECTORS < self.old.free
             → self.new.free + TRIES ≤ self.old.free }
         // In a move too it fails only if more tries did than slots were free beside those of the steps, or eight; or if
-        // a step failed that has yet to copy another page again.
+        // a step failed that has yet to copy another page again. Such a step ends at fewer Faults than its sector has
+        // slots over, up to seven, only if nothing but its erase was begun, or at the mark that passes the turn.
         ensures keeps_trying { (k : ℕ) → 0 < self.old.free → self.old.steps + k ≤ self.old.free
-            → IsErrOf result DeviceErr.Fault → GivesUpBehind page k self.old self.new }
+            → IsErrOf result DeviceErr.Fault
+            → GivesUpBehind F.PAGES F.SLOTS F.SECTORS F.sector_start page k self.old self.new }
         // Behind it, no fewer slots are free beside those of the steps than before, or than eight, but for one for each
         // Fault.
         ensures beside { 0 < self.old.free → 0 < self.new.free → KeepsBeside self.old self.new }

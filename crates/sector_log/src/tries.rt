@@ -183,11 +183,13 @@ fn make_ready<F: SectorFlash>(
         (F.state flash.old).faults (F.state flash.new).faults place.old place.new) }
     ensures stays { OnErr result (place.old.ready ≡ true → place.new.ready ≡ true → StaysAtStep place.old place.new) }
     // In a move too it fails only if more tries did than slots were free beside those of the steps, or eight; or if a
-    // step failed that has yet to copy another page again.
+    // step failed that has yet to copy another page again. Such a step ends at fewer Faults than its sector has slots
+    // over, up to seven, only if nothing but its erase was begun, or at the mark that passes the turn.
     ensures keeps_trying { (k : ℕ) → 0 < free_slots F.SLOTS place.old
         → known_sector_steps F.PAGES F.SECTORS place.old + k ≤ free_slots F.SLOTS place.old
         → IsErrOf result DeviceErr.Fault
-        → GivesUpBehind page k (sector_log_value F.PAGES F.SLOTS F.SECTORS (F.state flash.old) place.old)
+        → GivesUpBehind F.PAGES F.SLOTS F.SECTORS F.sector_start page k
+        (sector_log_value F.PAGES F.SLOTS F.SECTORS (F.state flash.old) place.old)
         (sector_log_value F.PAGES F.SLOTS F.SECTORS (F.state flash.new) place.new) }
     ensures idle { sector_lead F.SECTORS < free_slots F.SLOTS place.old
         → (place.new ≡ place.old) × (F.state flash.new ≡ F.state flash.old) }
@@ -275,11 +277,13 @@ pub fn write_at<F: SectorFlash>(
     ensures gives_up { IsErrOf result DeviceErr.Fault → sector_lead F.SECTORS < free_slots F.SLOTS place.old
         → free_slots F.SLOTS place.new + TRIES ≤ free_slots F.SLOTS place.old }
     // In a move too it fails only if more tries did than slots were free beside those of the steps, or eight; or if a
-    // step failed that has yet to copy another page again.
+    // step failed that has yet to copy another page again. Such a step ends at fewer Faults than its sector has slots
+    // over, up to seven, only if nothing but its erase was begun, or at the mark that passes the turn.
     ensures keeps_trying { (k : ℕ) → 0 < free_slots F.SLOTS place.old
         → known_sector_steps F.PAGES F.SECTORS place.old + k ≤ free_slots F.SLOTS place.old
         → IsErrOf result DeviceErr.Fault
-        → GivesUpBehind page k (sector_log_value F.PAGES F.SLOTS F.SECTORS (F.state flash.old) place.old)
+        → GivesUpBehind F.PAGES F.SLOTS F.SECTORS F.sector_start page k
+        (sector_log_value F.PAGES F.SLOTS F.SECTORS (F.state flash.old) place.old)
         (sector_log_value F.PAGES F.SLOTS F.SECTORS (F.state flash.new) place.new) }
     // Behind it, no fewer slots are free beside those of the steps than before, or than eight, but for one for each
     // Fault.

@@ -6,12 +6,14 @@ use Rattle.nvm_board.specs.declared.board.DeviceErr.{DeviceErr}
 use Rattle.nvm_board.specs.declared.board.DeviceErr.TheVariants.{Fault, PowerLost}
 use Rattle.flash_device.specs.FlashBlocks.{steps_of}
 use Rattle.flash_device.specs.FlashCalls.{FlashState, KeepsPower, Tries}
+use Rattle.flash_device.specs.FlashLogs.{turn_of}
 use Rattle.flash_moves.specs.declared.place.PageMap.{PageMap}
 use Rattle.flash_moves.specs.Paces.{free_slots}
 use Rattle.flash_moves.specs.Places.{state_of}
 use Rattle.flash_moves.specs.declared.ahead.TheConstants.{TRIES}
 use Rattle.sector_moves.specs.SectorPlaces.{EndsSectorStep, KeepsStep, StaysAtStep, place_steps}
-use Rattle.sector_moves.specs.SectorSpares.{HasFewestSteps, IsSectorSpare, sector_lead, sector_steps}
+use Rattle.sector_moves.specs.SectorSpares.{HasFewestSteps, HasMovedSteps, HoldsSlots, IsSectorSpare, sector_lead}
+use Rattle.sector_moves.specs.SectorSpares.{sector_steps}
 use Rattle.sector_moves.specs.laws.Stepping.{sector_steps_most}
 use Rattle.sector_log.specs.SectorLogs.{HasBeside, KeepsBeside, StopsAtStep, known_older, known_sector_steps}
 use Rattle.sector_log.specs.SectorLogs.{sector_log_value}
@@ -266,10 +268,16 @@ module _ {T : Type 0} (pages slots sectors : ℕ) (p q : PageMap T) where
       omega (arith, free, steps, new_free, new_steps, next, as_many, more, some, left) in
       record { beside = inl x }
 
-  -- a write stops where another copy may be older
-  pub stops_at : (s t : FlashState) (page : ℕ) → p.ready ≡ true → StaysAtStep p q → q.older ≢ 0 → q.older ≢ page + 1
-      → StopsAtStep page (sector_log_value pages slots sectors s p) (sector_log_value pages slots sectors t q)
-  stops_at s t page ready same some other =
+  -- a write stops where another copy may be older, by why its step failed
+  pub stops_at : (start : ℕ → ℕ) (s t : FlashState) (page : ℕ) → p.ready ≡ true → StaysAtStep p q → q.older ≢ 0
+      → q.older ≢ page + 1
+      → turn_of slots t.words ≡ q.turn
+      → ((n : ℕ) → n < TRIES → HoldsSlots pages slots sectors start n → p.older ≢ 0
+      → (s.faults + n ≤ t.faults) ⊎ ((t.operations ≤ s.operations + 1)
+      ⊎ HasMovedSteps pages slots sectors start t.words p.turn))
+      → StopsAtStep pages slots sectors start page (sector_log_value pages slots sectors s p)
+      (sector_log_value pages slots sectors t q)
+  stops_at start s t page ready same some other turn why =
       let old_older = older_known p ready in
       let new_older = older_known q same.ready in
       let older = same.older in record {
@@ -279,4 +287,7 @@ module _ {T : Type 0} (pages slots sectors : ℕ) (p q : PageMap T) where
         steps = steps_known pages sectors q same.ready ∙ same_steps pages sectors p q same
             ∙ sym (steps_known pages sectors p ready);
         free = free_is slots q same.ready ∙ ap (λ (n : ℕ). slots - n) same.next ∙ sym (free_is slots p ready);
+        why = λ n few holds. subst (λ (r : ℕ). (s.faults + n ≤ t.faults) ⊎ ((t.operations ≤ s.operations + 1)
+            ⊎ HasMovedSteps pages slots sectors start t.words r)) (sym (turn ∙ same.turn))
+            (why n few holds (λ e. some (older ∙ e)));
       }

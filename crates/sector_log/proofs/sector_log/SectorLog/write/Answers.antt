@@ -6,8 +6,12 @@ use Rattle.sector_log.proofs.sector_log.SectorLog.write.Goals as goal
 
 pub returns-clause-keeps_trying : goal.returns-clause-keeps_trying
 returns-clause-keeps_trying g c =
+    let slots = g.F.Flash.SLOTS in
+    let pages = g.F.Flash.PAGES in
+    let sectors = g.F.Flash.SECTORS in
+    let start = g.F.Flash.sector_start in
     let new = g.F.Flash.state c.write_at.new.flash in
     subst (λ (l : SectorLogState). (k : ℕ) → 0 < l.free → l.steps + k ≤ l.free → IsErrOf c.write_at.result Fault
-    → (l.flash.faults + TRIES ≤ new.faults) ⊎ ((l.flash.faults + k < new.faults) ⊎ StopsAtStep c.args.page l
-    (sector_log_value g.F.Flash.PAGES g.F.Flash.SLOTS g.F.Flash.SECTORS new c.write_at.new.place))) c.self.view_is
-    c.write_at.ensures.keeps_trying
+    → (l.flash.faults + TRIES ≤ new.faults) ⊎ ((l.flash.faults + k < new.faults)
+    ⊎ StopsAtStep pages slots sectors start c.args.page l
+    (sector_log_value pages slots sectors new c.write_at.new.place))) c.self.view_is c.write_at.ensures.keeps_trying
