@@ -1,5 +1,5 @@
 -- The slots that a write takes, each try the next one, and when none is left.
-use Rattle.std.specs.Prelude.{◌≡◌, ◌⊎◌, ◌↔◌, ◌≤◌, ◌+◌, ◌-◌, ◌*◌, ℕ, true, List, if◌then◌else◌}
+use Rattle.std.specs.Prelude.{◌≡◌, ◌⊎◌, ◌↔◌, ◌<◌, ◌≤◌, ◌+◌, ◌-◌, ◌*◌, ℕ, true, List, if◌then◌else◌}
 use Rattle.flash_area.specs.Spares.{MoveBeginsAnew, MoveGoesOn, steps_from}
 use Rattle.flash_device.specs.FlashCalls.{SameElsewhere}
 use Rattle.flash_device.specs.FlashLogs.{base_in, slot_of, turn_of}
@@ -30,10 +30,10 @@ SameNext slots old new = (n : ℕ)
 abbrev pub BeginsBy : ℕ → LogState → ℕ → Type 0
 BeginsBy slots l n = (k : ℕ) → IsNextSlot slots l.raw (passed_slots slots l) k → k ≤ n
 
--- A write met two Faults, or the next one begins no later than it did.
-abbrev pub MeetsTwoOrStays : ℕ → LogState → LogState → Type 0
-MeetsTwoOrStays slots old new = (old.flash.faults + 2 ≤ new.flash.faults)
-    ⊎ ((n : ℕ) → BeginsBy slots old n → BeginsBy slots new n)
+-- A write met more than so many Faults, or it passed over fewer slots than it met Faults.
+abbrev pub MeetsMoreOrPassesFewer : ℕ → ℕ → LogState → LogState → Type 0
+MeetsMoreOrPassesFewer slots k old new = (old.flash.faults + k < new.flash.faults)
+    ⊎ ((n : ℕ) → BeginsBy slots old n → BeginsBy slots new (n + (new.flash.faults - old.flash.faults - 1)))
 
 -- Tries of a write take slots from n on, so many at most, and the next write begins behind them: until power-on no slot
 -- is taken again, even if it reads blank. Together they got at most two programs a slot, of a record and its mark. No

@@ -113,7 +113,8 @@ pub fn find_again<F: Flash>(
         → KeepsPlace F.PAGES F.SLOTS F.SECTORS F.sector_start (F.state flash.new).words page place.new) }
     ensures room { OnOk result (kept.old ≡ true
         → steps_left_of F.PAGES F.SECTORS place.old + place.old.tried < F.SLOTS
-        → OwnsOlder page place.new × (steps_left_of F.PAGES F.SECTORS place.new + place.new.next < F.SLOTS)) }
+        → OwnsOlder page place.new × (steps_left_of F.PAGES F.SECTORS place.new + place.new.next
+        ≡ steps_left_of F.PAGES F.SECTORS place.old + place.old.tried)) }
     ensures in_pace { OnOk result ((extra : ℕ) → extra ≤ extra_of F.PAGES F.SLOTS F.SECTORS
         → WillPace kept.old F.PAGES F.SLOTS F.SECTORS F.sector_start (F.state flash.old).words extra place.old
         → KeepsPace F.PAGES F.SLOTS F.SECTORS extra place.new) }

@@ -12,7 +12,7 @@ ghost use Rattle.flash_moves.specs.Paces.{failed_since, free_slots, lead_of, los
 ghost use Rattle.flash_moves.specs.Paces.{steps_left as steps_left_of};
 ghost use Rattle.flash_moves.specs.Places.{FindsFree, IsLog, log_value};
 ghost use Rattle.flash_log.specs.KeptParts.{IsPacedBehind, KeepsPlace, WillPace};
-ghost use Rattle.flash_log.specs.SlotsInTurn.{BeginsBy, GivesUp, TakesInTurn, MeetsTwoOrStays, WillTake};
+ghost use Rattle.flash_log.specs.SlotsInTurn.{BeginsBy, GivesUp, TakesInTurn, MeetsMoreOrPassesFewer, WillTake};
 ghost use Rattle.flash_moves.specs.declared.ahead.TheConstants.{TRIES};
 
 use crate::kept::{find_again, goes_on, has_slot};
@@ -168,8 +168,8 @@ fn write_once<F: Flash>(
     ensures once { (n : ℕ) → n + lead_of F.PAGES F.SECTORS < F.SLOTS
         → WillTake F.SLOTS (log_value F.PAGES F.SLOTS F.SECTORS (F.state flash.old) place.old) n
         → (F.state flash.new).faults ≤ (F.state flash.old).faults + 1 }
-    // Behind a record that failed, all but the table is known still, and in pace a slot is left beside those of the
-    // steps if there were two.
+    // Behind a record that failed, all but the table is known still. In pace as many slots are left beside those of the
+    // steps as before, up to seven: the record took that of its step.
     ensures holds { IsErrOf result DeviceErr.Fault → kept.new ≡ true
         → KeepsPlace F.PAGES F.SLOTS F.SECTORS F.sector_start (F.state flash.new).words page place.new }
     ensures keeps { IsErrOf result DeviceErr.Fault → (extra : ℕ)
@@ -177,11 +177,11 @@ fn write_once<F: Flash>(
         → WillKeepPace F.PAGES F.SLOTS F.SECTORS F.sector_start (F.state flash.old).words extra place.old
         → WillPace kept.new F.PAGES F.SLOTS F.SECTORS F.sector_start (F.state flash.new).words
         (extra + lost_since (F.state flash.old) (F.state flash.new)) place.new }
-    ensures beside { IsErrOf result DeviceErr.Fault → kept.new ≡ true → (extra : ℕ)
+    ensures beside { IsErrOf result DeviceErr.Fault → kept.new ≡ true → (extra k : ℕ) → k < TRIES
         → IsRoomy F.PAGES F.SLOTS F.SECTORS (extra + failed_since (F.state flash.old) (F.state flash.new))
         → KeepsPace F.PAGES F.SLOTS F.SECTORS extra place.old
-        → steps_left_of F.PAGES F.SECTORS place.old + place.old.next < F.SLOTS
-        → steps_left_of F.PAGES F.SECTORS place.new + place.new.tried < F.SLOTS }
+        → steps_left_of F.PAGES F.SECTORS place.old + place.old.next + k ≤ F.SLOTS
+        → steps_left_of F.PAGES F.SECTORS place.new + place.new.tried + k ≤ F.SLOTS }
     // Without a try of the record no slot is passed over.
     ensures untried { IsErrOf result DeviceErr.Fault → kept.new ≡ false → (extra n : ℕ)
         → IsRoomy F.PAGES F.SLOTS F.SECTORS (extra + failed_since (F.state flash.old) (F.state flash.new))
@@ -268,6 +268,13 @@ fn write_again<F: Flash>(
         → extra ≤ extra_of F.PAGES F.SLOTS F.SECTORS
         → WillPace kept.old F.PAGES F.SLOTS F.SECTORS F.sector_start (F.state flash.old).words extra place.old
         → WillPace kept.new F.PAGES F.SLOTS F.SECTORS F.sector_start (F.state flash.new).words extra place.new }
+    // Where what is known leaves a slot, a Fault takes that slot, and the rest stays known. Or no slot is passed over.
+    ensures beside { IsErrOf result DeviceErr.Fault → place.new.ready ≡ false → kept.old ≡ true
+        → steps_left_of F.PAGES F.SECTORS place.old + place.old.tried < F.SLOTS
+        → ((kept.new ≡ true) × (steps_left_of F.PAGES F.SECTORS place.new + place.new.tried
+        ≡ steps_left_of F.PAGES F.SECTORS place.old + place.old.tried + 1))
+        ⊎ ((n : ℕ) → BeginsBy F.SLOTS (log_value F.PAGES F.SLOTS F.SECTORS (F.state flash.old) place.old) n
+        → BeginsBy F.SLOTS (log_value F.PAGES F.SLOTS F.SECTORS (F.state flash.new) place.new) n) }
     // By what is known, it gives up only where that leaves no slot. Else it has tried none.
     ensures full { IsErrOf result DeviceErr.Fault → place.new.ready ≡ true → kept.old ≡ true
         → F.SLOTS ≤ steps_left_of F.PAGES F.SECTORS place.old + place.old.tried }
@@ -350,12 +357,15 @@ fn try_again<F: Flash>(
         → ((F.state flash.old).faults + TRIES ≤ (F.state flash.new).faults + 1)
         ⊎ GivesUp F.PAGES F.SLOTS F.SECTORS F.sector_start page
         (log_value F.PAGES F.SLOTS F.SECTORS (F.state flash.new) place.new) }
-    // Without a Fault it had no slot from the start, by what was known too, and has tried none.
-    ensures at_once { IsErrOf result DeviceErr.Fault
-        → ((F.state flash.old).faults + 1 ≤ (F.state flash.new).faults)
-        ⊎ ((kept.old ≡ true → F.SLOTS ≤ steps_left_of F.PAGES F.SECTORS place.old + place.old.tried)
-        × ((n : ℕ) → BeginsBy F.SLOTS (log_value F.PAGES F.SLOTS F.SECTORS (F.state flash.old) place.old) n
-        → BeginsBy F.SLOTS (log_value F.PAGES F.SLOTS F.SECTORS (F.state flash.new) place.new) n)) }
+    // Where what is known leaves more slots than these, it met a Fault. It met more than these, or it passed over fewer
+    // slots than it met Faults.
+    ensures keeps_on { IsErrOf result DeviceErr.Fault → kept.old ≡ true → (extra k : ℕ) → k + 1 < TRIES
+        → extra ≤ extra_of F.PAGES F.SLOTS F.SECTORS
+        → WillPace kept.old F.PAGES F.SLOTS F.SECTORS F.sector_start (F.state flash.old).words extra place.old
+        → steps_left_of F.PAGES F.SECTORS place.old + place.old.tried + k < F.SLOTS
+        → ((F.state flash.old).faults < (F.state flash.new).faults)
+        × MeetsMoreOrPassesFewer F.SLOTS k (log_value F.PAGES F.SLOTS F.SECTORS (F.state flash.old) place.old)
+        (log_value F.PAGES F.SLOTS F.SECTORS (F.state flash.new) place.new) }
     ensures work { Costs 2 2 (F.state flash.old) (F.state flash.new) }
     ensures erases { (F.state flash.new).erases ≡ (F.state flash.old).erases }
     ensures slots { (n : ℕ) → n + lead_of F.PAGES F.SECTORS ≤ F.SLOTS
@@ -425,13 +435,15 @@ pub fn write_at<F: Flash>(
         → ((F.state flash.old).faults + TRIES ≤ (F.state flash.new).faults)
         ⊎ GivesUp F.PAGES F.SLOTS F.SECTORS F.sector_start page
         (log_value F.PAGES F.SLOTS F.SECTORS (F.state flash.new) place.new) }
-    // In pace, with a slot beside those of the steps, one Fault is handed on only if the next write begins no later.
-    ensures keeps_on { IsErrOf result DeviceErr.Fault → (extra : ℕ)
+    // In pace, with so many slots beside those of the steps, fewer than eight, it gives up only behind more Faults than
+    // these, or where it passed over fewer slots than it met Faults: one of them was no failed slot. Or the pages
+    // moved.
+    ensures keeps_on { IsErrOf result DeviceErr.Fault → (extra k : ℕ) → k < TRIES
         → IsRoomy F.PAGES F.SLOTS F.SECTORS (extra + failed_since (F.state flash.old) (F.state flash.new))
         → KeepsPace F.PAGES F.SLOTS F.SECTORS extra place.old
-        → steps_left_of F.PAGES F.SECTORS place.old + place.old.next < F.SLOTS
+        → steps_left_of F.PAGES F.SECTORS place.old + place.old.next + k ≤ F.SLOTS
         → StaysInArea F.SLOTS (F.state flash.old).words (F.state flash.new).words
-        → MeetsTwoOrStays F.SLOTS (log_value F.PAGES F.SLOTS F.SECTORS (F.state flash.old) place.old)
+        → MeetsMoreOrPassesFewer F.SLOTS k (log_value F.PAGES F.SLOTS F.SECTORS (F.state flash.old) place.old)
         (log_value F.PAGES F.SLOTS F.SECTORS (F.state flash.new) place.new) }
     ensures work { Costs (2 * F.PAGES + 40 + F.SECTORS) 2 (F.state flash.old) (F.state flash.new) }
     ensures pause { (extra : ℕ)

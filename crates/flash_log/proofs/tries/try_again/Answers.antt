@@ -1,15 +1,13 @@
-use Rattle.std.proofs.Common.{◌≡◌, ◌<◌, ◌≤◌, ◌+◌, ◌-◌, ◌*◌, length, Err, refl, ap}
-use Rattle.std.proofs.Common.{inl, inr, subst, ◌∙◌, arith, true≢false}
-use Rattle.std.proofs.Common.{⊎_elim, sym}
+use Rattle.std.proofs.Common.{◌≡◌, ◌<◌, ◌≤◌, ◌+◌, ◌-◌, ◌*◌, ℕ, true, length}
+use Rattle.std.proofs.Common.{Err, refl, ap, sym, inl, inr, ⊎_elim, subst, ◌∙◌, arith, true≢false}
 use Rattle.std.proofs.lemmas.Bool.{cases_lt}
 use Rattle.nvm_board.specs.declared.board.DeviceErr.{DeviceErr}
-use Rattle.flash_device.specs.FlashCalls.{FlashState, KeepsPower, Tries}
+use Rattle.flash_device.specs.FlashCalls.{KeepsPower, Tries}
 use Rattle.flash_device.specs.FlashLogs.{words_of}
 use Rattle.flash_area.specs.laws.Words.{length-words}
-use Rattle.flash_moves.specs.declared.place.PageMap.{PageMap}
 use Rattle.flash_moves.specs.Paces.{steps_left}
 use Rattle.flash_moves.specs.Places.{log_value}
-use Rattle.flash_log.specs.SlotsInTurn.{BeginsBy}
+use Rattle.flash_log.specs.SlotsInTurn.{BeginsBy, MeetsMoreOrPassesFewer}
 use Rattle.flash_log.specs.laws.Keeping.{will_stands}
 use Rattle.flash_moves.specs.laws.Lighting.{tries_faults}
 use Rattle.flash_log.specs.laws.Retrying.{tries_behind}
@@ -27,7 +25,7 @@ loop-init g c = record {
   erases = refl;
   stood = λ extra fits stands. stands;
   holds = c.requires.keeps;
-  first = λ one. (refl, refl, refl);
+  keeps_on = λ kept extra k fits will room. inr (kept, omega (arith, room));
   turns = λ n far takes. takes_more g.F.Flash.SLOTS n 0 _ _ _ (omega arith) (takes_none g.F.Flash.SLOTS n _ takes);
   met = omega arith;
   unready = c.requires.unready;
@@ -63,6 +61,7 @@ loop-preserved g c =
     let old = g.F.Flash.state c.args.flash.now in
     let now = g.F.Flash.state c.loop.flash in
     let new = g.F.Flash.state c.write_again.new.flash in
+    let is = ap Err c.in-Err-Fault.field-0-is in
     record {
       lit = power.lit;
       steady = record { lit = power.lit; due = power.due ∙ was.steady.due; faults = omega (arith, less, more) };
@@ -72,7 +71,49 @@ loop-preserved g c =
       stood = λ extra few stands. c.in-Err-Fault.ensures.keeps (ap Err c.in-Err-Fault.field-0-is) c.if-place.false extra
           few (was.stood extra few stands);
       holds = c.in-Err-Fault.ensures.holds (ap Err c.in-Err-Fault.field-0-is) c.if-place.false;
-      first = λ one. absurd (omega (arith, one, met, less));
+      keeps_on = λ kept extra k few will room.
+          let rise = c.in-Err-Fault.ensures.failed_once is c.if-place.false in
+          let counted = was.met in
+          ⊎_elim
+          (λ (met : (old.faults < now.faults) × MeetsMoreOrPassesFewer slots k
+          (log_value pages slots sectors old c.args.place.now) (log_value pages slots sectors now c.loop.place)).
+          let some = met.0 in
+          inl (
+            omega (arith, some, rise),
+            ⊎_elim
+                (λ (many : old.faults + k < now.faults). inl (omega (arith, many, rise)))
+                (λ (fewer : (n : ℕ) → BeginsBy slots (log_value pages slots sectors old c.args.place.now) n
+                → BeginsBy slots (log_value pages slots sectors now c.loop.place) (n + (now.faults - old.faults - 1))).
+                inr (λ n begins. begins_later slots (log_value pages slots sectors new c.write_again.new.place)
+                (n + (now.faults - old.faults - 1) + 1) (n + (new.faults - old.faults - 1)) (omega (arith, some, rise))
+                (c.write_again.ensures.begins extra (n + (now.faults - old.faults - 1)) few (was.stood extra few will)
+                (fewer n begins))))
+                met.1,
+          ))
+          (λ (known : (c.loop.kept ≡ true)
+          × (steps_left pages sectors c.loop.place + c.loop.place.tried + k < slots + (c.loop.counter - 1))).
+          let left = known.1 in
+          ⊎_elim
+          (λ (some : steps_left pages sectors c.loop.place + c.loop.place.tried < slots). ⊎_elim
+          (λ (on : (c.write_again.new.kept ≡ true)
+          × (steps_left pages sectors c.write_again.new.place + c.write_again.new.place.tried
+          ≡ steps_left pages sectors c.loop.place + c.loop.place.tried + 1)).
+          let one = on.1 in
+          inr (on.0, omega (arith, left, one, less, met)))
+          (λ (none : (n : ℕ) → BeginsBy slots (log_value pages slots sectors now c.loop.place) n
+          → BeginsBy slots (log_value pages slots sectors new c.write_again.new.place) n).
+          inl (
+            omega (arith, less, rise),
+            inr (λ n begins. begins_later slots
+                (log_value pages slots sectors new c.write_again.new.place) (n + (c.loop.counter - 1))
+                (n + (new.faults - old.faults - 1)) (omega (arith, counted, rise))
+                (none (n + (c.loop.counter - 1)) (was.begun extra n few will begins))),
+          ))
+          (c.in-Err-Fault.ensures.beside is c.if-place.false known.0 some))
+          (λ (full : slots ≤ steps_left pages sectors c.loop.place + c.loop.place.tried).
+          inl (omega (arith, less, rise), inl (omega (arith, full, left, counted, rise))))
+          (cases_lt (steps_left pages sectors c.loop.place + c.loop.place.tried) slots))
+          (was.keeps_on kept extra k few will room);
       turns = λ n far takes.
           let first = was.turns n far takes in
           let few = first.few in
@@ -426,34 +467,43 @@ returns-clause-passes g c = λ failed extra n few stands begins.
     - (g.F.Flash.state c.args.flash.now).faults)) (omega (arith, counted))
     (c.loop.invariant.begun extra n few stands begins)
 
-pub returns-then-place-clause-at_once : goal.returns-then-place-clause-at_once
-returns-then-place-clause-at_once g c = λ failed.
+pub returns-then-place-clause-keeps_on : goal.returns-then-place-clause-keeps_on
+returns-then-place-clause-keeps_on g c = λ failed kept extra k few fits will room.
     let slots = g.F.Flash.SLOTS in
     let pages = g.F.Flash.PAGES in
     let sectors = g.F.Flash.SECTORS in
+    let old = g.F.Flash.state c.args.flash.now in
+    let now = g.F.Flash.state c.loop.flash in
+    let new = g.F.Flash.state c.write_again.new.flash in
     let counted = c.loop.invariant.met in
-    let less = c.loop.invariant.steady.faults in
-    let more = tries_faults 0 (g.F.Flash.state c.loop.flash) (g.F.Flash.state c.write_again.new.flash)
-    c.write_again.result c.write_again.ensures.light in
+    let more = tries_faults 0 now new c.write_again.result c.write_again.ensures.light in
     let is = ap Err c.in-Err-Fault.field-0-is in
     ⊎_elim
-    (λ (later : 1 < c.loop.counter). inl (omega (arith, counted, less, more, later)))
-    (λ (one : c.loop.counter ≤ 1).
-    let test = c.loop-test.true in
-    let same = c.loop.invariant.first (omega (arith, one, counted, test)) in
-    inr (
-      (λ kept. subst (λ (p : PageMap g.row.F-Table.Denot). slots ≤ steps_left pages sectors p + p.tried) same.1
-          (c.in-Err-Fault.ensures.full is c.if-place.true (same.2 ∙ kept))),
-      (λ n begins. c.in-Err-Fault.ensures.untried is c.if-place.true n
-          (subst (λ (p : PageMap g.row.F-Table.Denot). BeginsBy slots (log_value pages slots sectors
-          (g.F.Flash.state c.loop.flash) p) n) (sym same.1)
-          (subst (λ (s : FlashState). BeginsBy slots (log_value pages slots sectors s c.args.place.now) n) (sym same.0)
-          begins))),
+    (λ (met : (old.faults < now.faults) × MeetsMoreOrPassesFewer slots k
+    (log_value pages slots sectors old c.args.place.now) (log_value pages slots sectors now c.loop.place)).
+    let some = met.0 in (
+      omega (arith, some, more),
+      ⊎_elim
+          (λ (many : old.faults + k < now.faults). inl (omega (arith, many, more)))
+          (λ (fewer : (n : ℕ) → BeginsBy slots (log_value pages slots sectors old c.args.place.now) n
+          → BeginsBy slots (log_value pages slots sectors now c.loop.place) (n + (now.faults - old.faults - 1))).
+          inr (λ n begins. begins_later slots (log_value pages slots sectors new c.write_again.new.place)
+          (n + (now.faults - old.faults - 1)) (n + (new.faults - old.faults - 1)) (omega (arith, more))
+          (c.in-Err-Fault.ensures.untried is c.if-place.true (n + (now.faults - old.faults - 1)) (fewer n begins))))
+          met.1,
     ))
-    (cases_lt 1 c.loop.counter)
+    (λ (known : (c.loop.kept ≡ true)
+    × (steps_left pages sectors c.loop.place + c.loop.place.tried + k < slots + (c.loop.counter - 1))).
+    let full = c.in-Err-Fault.ensures.full is c.if-place.true known.0 in
+    let left = known.1 in
+    (omega (arith, full, left, counted, more), inl (omega (arith, full, left, counted, more))))
+    (c.loop.invariant.keeps_on kept extra k fits will room)
 
-pub returns-clause-at_once : goal.returns-clause-at_once
-returns-clause-at_once g c = λ failed. let counted = c.loop.invariant.met in inl (omega (arith, counted))
+pub returns-clause-keeps_on : goal.returns-clause-keeps_on
+returns-clause-keeps_on g c = λ failed kept extra k few fits will room.
+    let counted = c.loop.invariant.met in
+    let test = c.loop-test.false in
+    (omega (arith, counted, test), inl (omega (arith, counted, test, few)))
 
 pub returns-clause-stands : goal.returns-clause-stands
 returns-clause-stands g c = λ extra few will.

@@ -1,11 +1,11 @@
-use Rattle.std.proofs.Common.{◌≡◌, ◌⊎◌, ◌≤◌, ◌+◌, ◌-◌, ◌*◌, ℕ, false, true}
+use Rattle.std.proofs.Common.{◌≡◌, ◌⊎◌, ◌<◌, ◌≤◌, ◌+◌, ◌-◌, ◌*◌, ℕ, false, true}
 use Rattle.nvm_board.specs.History.{written}
 use Rattle.flash_device.specs.FlashCalls.{KeepsPower}
 use Rattle.flash_device.specs.FlashLogs.{turn_of, words_of}
-use Rattle.flash_moves.specs.Paces.{extra_of, lead_of}
+use Rattle.flash_moves.specs.Paces.{extra_of, lead_of, steps_left}
 use Rattle.flash_moves.specs.Places.{IsLog, log_value}
 use Rattle.flash_log.specs.KeptParts.{KeepsPlace, WillPace}
-use Rattle.flash_log.specs.SlotsInTurn.{BeginsBy, TakesInTurn, WillTake}
+use Rattle.flash_log.specs.SlotsInTurn.{BeginsBy, MeetsMoreOrPassesFewer, TakesInTurn, WillTake}
 use Rattle.flash_log.proofs.tries.try_again.Given as goal
 
 abbrev pub invariant-loop : goal.invariant-loop
@@ -25,7 +25,13 @@ invariant-loop g l =
           → WillPace l.initial.kept pages slots sectors start old.words extra l.initial.place
           → WillPace l.kept pages slots sectors start new.words extra l.place;
       holds : l.kept ≡ true → KeepsPlace pages slots sectors start new.words l.page l.place;
-      first : l.counter ≡ 1 → (new ≡ old) × (l.place ≡ l.initial.place) × (l.kept ≡ l.initial.kept);
+      keeps_on : l.initial.kept ≡ true → (extra k : ℕ) → extra ≤ extra_of pages slots sectors
+          → WillPace l.initial.kept pages slots sectors start old.words extra l.initial.place
+          → steps_left pages sectors l.initial.place + l.initial.place.tried + k < slots
+          → ((old.faults < new.faults) × MeetsMoreOrPassesFewer slots k
+          (log_value pages slots sectors old l.initial.place) (log_value pages slots sectors new l.place))
+          ⊎ ((l.kept ≡ true)
+          × (steps_left pages sectors l.place + l.place.tried + k < slots + (l.counter - 1)));
       turns : (n : ℕ) → n + lead_of pages sectors ≤ slots
           → WillTake slots (log_value pages slots sectors old l.initial.place) n
           → TakesInTurn slots n (l.counter - 1) (log_value pages slots sectors old l.initial.place)

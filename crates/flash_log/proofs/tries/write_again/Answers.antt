@@ -1,4 +1,5 @@
-use Rattle.std.proofs.Common.{◌≡◌, ◌⊎◌, ◌<◌, ◌≤◌, ◌+◌, ◌-◌, ◌*◌, ℕ, List, refl, ap, sym, subst, inl, ⊎_elim, ◌∙◌, arith}
+use Rattle.std.proofs.Common.{◌≡◌, ◌⊎◌, ◌<◌, ◌≤◌, ◌+◌, ◌-◌, ◌*◌, ℕ, List, refl, ap, sym, subst, inl, inr}
+use Rattle.std.proofs.Common.{⊎_elim, ◌∙◌, arith}
 use Rattle.std.specs.Prelude.{IsErrOf}
 use Rattle.nvm_board.specs.declared.board.DeviceErr.TheVariants.{Fault}
 use Rattle.std.proofs.Common.{rules, true≢false}
@@ -466,12 +467,13 @@ returns-clause-holds g c = λ failed unready kept.
     omega (arith, begun, same))
 
 pub returns-clause-keeps : goal.returns-clause-keeps
-returns-clause-keeps g c = λ failed unready extra fits will. record {
-  known = λ e. err_holds c.put_next.result c.put_next.ensures.paces failed extra
-      (own_stepped g (goal.at.returns-clause-keeps g c).After-put_next extra
-      (own_pace g (goal.at.returns-clause-keeps g c).After-keep_own extra fits will));
-  looks = λ e. absurd (true≢false e);
-}
+returns-clause-keeps g c = λ failed unready extra fits will.
+    let stepped = own_stepped g (goal.at.returns-clause-keeps g c).After-put_next extra
+    (own_pace g (goal.at.returns-clause-keeps g c).After-keep_own extra fits will) in
+    record {
+      known = λ e. err_holds c.put_next.result c.put_next.ensures.paces failed extra stepped;
+      looks = λ e. c.put_next.ensures.stands extra stepped;
+    }
 
 pub returns-then-not-has_slot-clause-full : goal.returns-then-not-has_slot-clause-full
 returns-then-not-has_slot-clause-full g c = λ failed ready kept.
@@ -486,8 +488,8 @@ returns-then-not-has_slot-clause-full g c = λ failed ready kept.
     let none = subst (λ (z : PageMap g.row.F-Table.Denot). OwnsOlder c.args.page z
     → slots ≤ steps_left pages sectors z + z.next) (c.keep_own.ensures.owned has.0)
     (c.has_slot.ensures.no c.if-not-has_slot.true) has.0 in
-    let more = has.1 in
-    absurd (omega (arith, none, more)))
+    let same = has.1 in
+    absurd (omega (arith, none, same, some)))
     (λ (none : slots ≤ steps_left pages sectors p + p.tried). none)
     (cases_lt (steps_left pages sectors p + p.tried) slots)
 
@@ -508,6 +510,32 @@ returns-clause-full g c = λ failed ready kept.
 pub returns-clause-untried : goal.returns-clause-untried
 returns-clause-untried g c = λ failed ready.
     absurd (true≢false (sym ready ∙ err_holds c.put_next.result c.put_next.ensures.unready failed))
+
+-- Behind a search that failed no slot is passed over.
+pub returns-in_err-find_again-clause-beside : goal.returns-in_err-find_again-clause-beside
+returns-in_err-find_again-clause-beside g c = λ failed unready kept some.
+    inr (λ n begins. begins_lost g.F.Flash.PAGES g.F.Flash.SLOTS g.F.Flash.SECTORS (g.F.Flash.state c.args.flash.now)
+    (g.F.Flash.state c.find_again.new.flash) c.args.place.now c.find_again.new.place n c.requires.unready
+    c.in_err-find_again.ensures.unready c.find_again.ensures.tried c.find_again.ensures.words begins)
+
+pub returns-then-not-has_slot-clause-beside : goal.returns-then-not-has_slot-clause-beside
+returns-then-not-has_slot-clause-beside g c = λ failed unready.
+    absurd (true≢false (sym (c.keep_own.ensures.same.0 ∙ c.in_ok-find_again.ensures.ready) ∙ unready))
+
+-- A slot was left, so the move that is known goes on.
+pub returns-clause-beside : goal.returns-clause-beside
+returns-clause-beside g c = λ failed unready kept some.
+    let pages = g.F.Flash.PAGES in
+    let sectors = g.F.Flash.SECTORS in
+    let q = c.find_again.new.place in
+    let has = c.in_ok-find_again.ensures.room kept some in
+    let own : steps_left pages sectors c.keep_own.new.place + c.keep_own.new.place.next
+    ≡ steps_left pages sectors q + q.next =
+    ap (λ (z : PageMap g.row.F-Table.Denot). steps_left pages sectors z + z.next) (c.keep_own.ensures.owned has.0) in
+    let same = has.1 in
+    let step = c.put_next.ensures.step in
+    let tried = c.put_next.ensures.tried in
+    inl (refl, omega (arith, own, same, step, tried))
 
 pub returns-in_err-find_again-clause-stands : goal.returns-in_err-find_again-clause-stands
 returns-in_err-find_again-clause-stands g c = λ extra fits will.

@@ -1,6 +1,6 @@
-use Rattle.std.proofs.Common.{◌≡◌, ◌≤◌, ◌+◌, ◌-◌, ◌*◌, ℕ, length, Err, ap, inl, inr, ⊎_elim, arith, true≢false}
+use Rattle.std.proofs.Common.{◌≡◌, ◌<◌, ◌≤◌, ◌+◌, ◌-◌, ◌*◌, ℕ, length, Err, ap, inl, inr, ⊎_elim, arith, true≢false}
 use Rattle.std.proofs.Common.{false, true, sym, ◌∙◌}
-use Rattle.std.proofs.lemmas.Bool.{cases_Bool}
+use Rattle.std.proofs.lemmas.Bool.{cases_Bool, cases_lt}
 use Rattle.std.proofs.lemmas.Result.{on_ok_weaker}
 use Rattle.flash_device.specs.FlashCalls.{KeepsPower}
 use Rattle.flash_device.specs.FlashLogs.{base_in, words_of}
@@ -284,7 +284,7 @@ returns-in-Err-PowerLost-clause-begins g c = λ extra n roomy stands stays begin
     - (g.F.Flash.state c.args.flash.now).faults)) (omega arith)
     (c.write_once.ensures.begins extra n roomy stands stays begins)
 
--- the next write begins behind the first try, and behind it the log is in pace
+-- The next write begins behind the first try.
 first_begins : (g : Over) (c : After-try_again g) (extra n : ℕ)
     → IsRoomy g.F.Flash.PAGES g.F.Flash.SLOTS g.F.Flash.SECTORS
     (extra + failed_since (g.F.Flash.state c.args.flash.now) (g.F.Flash.state c.try_again.new.flash))
@@ -296,27 +296,33 @@ first_begins : (g : Over) (c : After-try_again g) (extra n : ℕ)
     (g.F.Flash.state c.args.flash.now) c.args.place.now) n
     → BeginsBy g.F.Flash.SLOTS (log_value g.F.Flash.PAGES g.F.Flash.SLOTS g.F.Flash.SECTORS
     (g.F.Flash.state c.write_once.new.flash) c.write_once.new.place) (n + 1)
-    × WillPace c.write_once.new.kept g.F.Flash.PAGES g.F.Flash.SLOTS g.F.Flash.SECTORS g.F.Flash.sector_start
+first_begins g c = λ extra n roomy stands stays begins.
+    let mid = g.F.Flash.state c.write_once.new.flash in
+    let more = tries_faults 0 mid (g.F.Flash.state c.try_again.new.flash) c.try_again.result
+    c.try_again.ensures.light in
+    c.write_once.ensures.begins extra n (omega (arith, roomy, more)) stands
+    (sym (ap (base_in g.F.Flash.SLOTS) c.try_again.ensures.turn) ∙ stays) begins
+
+-- What the first try leaves known will be in pace.
+first_paces : (g : Over) (c : After-try_again g) (extra : ℕ) → IsRoomy g.F.Flash.PAGES g.F.Flash.SLOTS g.F.Flash.SECTORS
+    (extra + failed_since (g.F.Flash.state c.args.flash.now) (g.F.Flash.state c.try_again.new.flash))
+    → WillKeepPace g.F.Flash.PAGES g.F.Flash.SLOTS g.F.Flash.SECTORS g.F.Flash.sector_start
+    (g.F.Flash.state c.args.flash.now).words extra c.args.place.now
+    → WillPace c.write_once.new.kept g.F.Flash.PAGES g.F.Flash.SLOTS g.F.Flash.SECTORS g.F.Flash.sector_start
     (g.F.Flash.state c.write_once.new.flash).words
     (extra + failed_since (g.F.Flash.state c.args.flash.now) (g.F.Flash.state c.write_once.new.flash))
     c.write_once.new.place
-first_begins g c = λ extra n roomy stands stays begins.
+first_paces g c = λ extra roomy stands.
     let slots = g.F.Flash.SLOTS in
-    let pages = g.F.Flash.PAGES in
-    let sectors = g.F.Flash.SECTORS in
-    let start = g.F.Flash.sector_start in
     let old = g.F.Flash.state c.args.flash.now in
     let mid = g.F.Flash.state c.write_once.new.flash in
-    let new = g.F.Flash.state c.try_again.new.flash in
     let due = (first_failed g c).0.due in
-    let more = tries_faults 0 mid new c.try_again.result c.try_again.ensures.light in
-    let still : StaysInArea slots old.words mid.words =
-    sym (ap (base_in slots) c.try_again.ensures.turn) ∙ stays in (
-      c.write_once.ensures.begins extra n (omega (arith, roomy, more)) stands still begins,
-      will_pace_more pages slots sectors start mid.words c.args.page c.write_once.new.place c.write_once.new.kept
-          (extra + lost_since old mid) (extra + failed_since old mid) (omega (arith, due))
-          (c.in-Err-Fault.ensures.keeps (ap Err c.in-Err-Fault.field-0-is) extra (omega (arith, roomy, more)) stands),
-    )
+    let more = tries_faults 0 mid (g.F.Flash.state c.try_again.new.flash) c.try_again.result
+    c.try_again.ensures.light in
+    will_pace_more g.F.Flash.PAGES slots g.F.Flash.SECTORS g.F.Flash.sector_start mid.words c.args.page
+    c.write_once.new.place c.write_once.new.kept (extra + lost_since old mid) (extra + failed_since old mid)
+    (omega (arith, due))
+    (c.in-Err-Fault.ensures.keeps (ap Err c.in-Err-Fault.field-0-is) extra (omega (arith, roomy, more)) stands)
 
 pub returns-clause-begins : goal.returns-clause-begins
 returns-clause-begins g c = λ extra n roomy stands stays begins.
@@ -330,9 +336,10 @@ returns-clause-begins g c = λ extra n roomy stands stays begins.
     let met = (first_failed g run).1 in
     let more = tries_faults 0 mid new c.try_again.result c.try_again.ensures.light in
     let one = first_begins g run extra n roomy stands stays begins in
+    let will = first_paces g run extra roomy stands in
     begins_later slots (log_value pages slots sectors new c.try_again.new.place)
     (n + 1 + 1 + (new.faults - mid.faults)) (n + 1 + (new.faults - old.faults)) (omega (arith, met, more))
-    (c.try_again.ensures.begins (extra + failed_since old mid) (n + 1) (omega (arith, roomy, more)) one.1 one.0)
+    (c.try_again.ensures.begins (extra + failed_since old mid) (n + 1) (omega (arith, roomy, more)) will one)
 
 pub returns-clause-passes : goal.returns-clause-passes
 returns-clause-passes g c = λ failed extra n roomy stands stays begins.
@@ -346,9 +353,10 @@ returns-clause-passes g c = λ failed extra n roomy stands stays begins.
     let met = (first_failed g run).1 in
     let more = tries_faults 0 mid new c.try_again.result c.try_again.ensures.light in
     let one = first_begins g run extra n roomy stands stays begins in
+    let will = first_paces g run extra roomy stands in
     begins_later slots (log_value pages slots sectors new c.try_again.new.place)
     (n + 1 + (new.faults - mid.faults)) (n + (new.faults - old.faults)) (omega (arith, met, more))
-    (c.try_again.ensures.passes failed (extra + failed_since old mid) (n + 1) (omega (arith, roomy, more)) one.1 one.0)
+    (c.try_again.ensures.passes failed (extra + failed_since old mid) (n + 1) (omega (arith, roomy, more)) will one)
 
 pub returns-in-Ok-clause-steps : goal.returns-in-Ok-clause-steps
 returns-in-Ok-clause-steps g c = c.in-Ok.ensures.steps
@@ -359,25 +367,40 @@ returns-clause-steps g c =
     ok_holds c.try_again.result (λ ok extra roomy same. absurd (omega (arith, met, same)))
 
 pub returns-clause-keeps_on : goal.returns-clause-keeps_on
-returns-clause-keeps_on g c = λ failed extra roomy pace room stays.
+returns-clause-keeps_on g c = λ failed extra k few roomy pace room stays.
     let slots = g.F.Flash.SLOTS in
+    let pages = g.F.Flash.PAGES in
+    let sectors = g.F.Flash.SECTORS in
+    let old = g.F.Flash.state c.args.flash.now in
     let mid = g.F.Flash.state c.write_once.new.flash in
     let new = g.F.Flash.state c.try_again.new.flash in
+    let last = log_value pages slots sectors new c.try_again.new.place in
     let run = (goal.at.returns-clause-keeps_on g c).After-try_again in
     let met = (first_failed g run).1 in
     let more = tries_faults 0 mid new c.try_again.result c.try_again.ensures.light in
     let is = ap Err c.in-Err-Fault.field-0-is in
-    let less : IsRoomy g.F.Flash.PAGES slots g.F.Flash.SECTORS (extra + failed_since
-    (g.F.Flash.state c.args.flash.now) mid) = omega (arith, roomy, more) in
+    let less : IsRoomy pages slots sectors (extra + failed_since old mid) = omega (arith, roomy, more) in
+    let will = first_paces g run extra roomy (inl pace) in
     ⊎_elim
-    (λ twice. inl (omega (arith, met, twice)))
-    (λ none. ⊎_elim
+    (λ (some : 0 < k). ⊎_elim
     (λ (kept : c.write_once.new.kept ≡ true).
-    let full = none.0 kept in
-    let some = c.in-Err-Fault.ensures.beside is kept extra less pace room in
-    absurd (omega (arith, full, some)))
+    let left = c.in-Err-Fault.ensures.beside is kept extra k few less pace room in
+    let on = c.try_again.ensures.keeps_on failed kept (extra + failed_since old mid) (k - 1) (omega (arith, few, some))
+    (omega (arith, less)) will (omega (arith, left, some)) in
+    let again = on.0 in
+    ⊎_elim
+    (λ (many : mid.faults + (k - 1) < new.faults). inl (omega (arith, met, many, some)))
+    (λ (fewer : (n : ℕ) → BeginsBy slots (log_value pages slots sectors mid c.write_once.new.place) n
+    → BeginsBy slots last (n + (new.faults - mid.faults - 1))).
+    inr (λ n begins. begins_later slots last (n + 1 + (new.faults - mid.faults - 1)) (n + (new.faults - old.faults - 1))
+    (omega (arith, met, again)) (fewer (n + 1) (first_begins g run extra n roomy (inl pace) stays begins))))
+    on.1)
     (λ (untried : c.write_once.new.kept ≡ false).
-    inr (λ n begins. none.1 n (c.in-Err-Fault.ensures.untried is untried extra n less (inl pace)
-    (sym (ap (base_in slots) c.try_again.ensures.turn) ∙ stays) begins)))
+    inr (λ n begins. begins_later slots last (n + (new.faults - mid.faults)) (n + (new.faults - old.faults - 1))
+    (omega (arith, met, more))
+    (c.try_again.ensures.passes failed (extra + failed_since old mid) n (omega (arith, less)) will
+    (c.in-Err-Fault.ensures.untried is untried extra n less (inl pace)
+    (sym (ap (base_in slots) c.try_again.ensures.turn) ∙ stays) begins))))
     (cases_Bool c.write_once.new.kept))
-    (c.try_again.ensures.at_once failed)
+    (λ (none : k ≤ 0). inl (omega (arith, met, more, none)))
+    (cases_lt 0 k)

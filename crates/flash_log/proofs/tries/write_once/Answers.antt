@@ -392,7 +392,7 @@ returns-clause-untried g c = λ failed kept extra n roomy pace.
     (extra + failed_since old mid) stepped) ∙ kept))
 
 pub returns-clause-beside : goal.returns-clause-beside
-returns-clause-beside g c = λ failed kept extra roomy pace room.
+returns-clause-beside g c = λ failed kept extra k below roomy pace room.
     let slots = g.F.Flash.SLOTS in
     let pages = g.F.Flash.PAGES in
     let sectors = g.F.Flash.SECTORS in
@@ -410,5 +410,5 @@ returns-clause-beside g c = λ failed kept extra roomy pace room.
     omega (arith, step, tried, fewer, next, room))
     (λ (far : q.next + lead_of pages sectors < slots).
     let most = steps_most pages slots sectors q in
-    omega (arith, step, tried, far, most))
+    omega (arith, step, tried, far, most, below))
     ((c.in_ok-prepare.ensures.ends extra (omega (arith, roomy, more)) pace).fewer)
