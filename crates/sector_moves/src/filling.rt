@@ -222,7 +222,7 @@ fn copy_page<F: Flash>(
     Ok(free)
 }
 
-/// Copies the pages of a step to free slots of the other area below `end`.
+/// Copies the pages of a step to free slots of the other area below `end`, and returns the first slot behind them.
 fn copy_pages<F: Flash>(
     flash: &mut F,
     turn: u8,
@@ -230,7 +230,7 @@ fn copy_pages<F: Flash>(
     next: u16,
     end: u16,
     first: u16,
-) -> Result<(), DeviceErr>
+) -> Result<u16, DeviceErr>
     requires lit { (F.state flash.old).dark ≡ false }
     requires turn { (turn < 3) × (turn ≢ 1) × (turn ≡ turn_of F.SLOTS (F.state flash.old).words) }
     requires some { (next + STEP_PAGES ≤ end) × (end ≤ F.SLOTS) }
@@ -246,12 +246,17 @@ fn copy_pages<F: Flash>(
         (spare_in F.SLOTS turn) below first 0
         → HasSectorCopies F.PAGES F.SLOTS (F.state flash.new).words words (base_in F.SLOTS turn)
         (spare_in F.SLOTS turn) below (first + STEP_PAGES) 0) }
+    ensures most { IfOk result (λ n. (next ≤ n) × (n ≤ end)) }
     ensures light { Tries 1 (F.state flash.old) (F.state flash.new) result }
-    // It fails only if a read failed in each try, or a program in each slot that the other pages leave over.
+    // Each slot that it passes over failed. It fails only if a read failed in each try, or a program in each slot that
+    // the other pages leave over.
+    ensures passes { IfOk result (λ n. n + (F.state flash.old).faults
+        ≤ next + STEP_PAGES + (F.state flash.new).faults) }
     ensures keeps_trying { IsErrOf result DeviceErr.Fault
         → ((F.state flash.old).faults + TRIES ≤ (F.state flash.new).faults)
         ⊎ ((F.state flash.old).faults + (end - next) + 1 ≤ (F.state flash.new).faults + STEP_PAGES) }
     ensures work { Costs 32 2 (F.state flash.old) (F.state flash.new) }
+    ensures spends { IfOk result (λ n. SpendsSlots next n (F.state flash.old) (F.state flash.new)) }
     ensures within { SpendsSlots next end (F.state flash.old) (F.state flash.new) }
     ensures erases { (F.state flash.new).erases ≡ (F.state flash.old).erases }
 {
@@ -266,19 +271,19 @@ fn copy_pages<F: Flash>(
             first + k,
         )?;
     }
-    Ok(())
+    Ok(free)
 }
 
 /// Takes a step that copies pages: erases its sector of the other area, copies the page there whose copy may be older,
-/// and the pages of the step. Of the slots that it takes, those that fail are passed over. At every exit no other word
-/// of the flash has changed, so it can be taken again.
+/// and the pages of the step. Returns how many slots it took: those that fail are passed over. At every exit no other
+/// word of the flash has changed, so it can be taken again.
 pub fn fill_sector<F: SectorFlash>(
     flash: &mut F,
     turn: u8,
     table: &F::Table,
     step: u16,
     older: u16,
-) -> Result<(), DeviceErr>
+) -> Result<u16, DeviceErr>
     requires lit { (F.state flash.old).dark ≡ false }
     requires turn { (turn < 3) × (turn ≢ 1) × (turn ≡ turn_of F.SLOTS (F.state flash.old).words) }
     requires step { (step < steps_of F.PAGES) × (older ≤ STEP_PAGES * step) }
@@ -292,14 +297,19 @@ pub fn fill_sector<F: SectorFlash>(
     ensures copies { OnOk result (HasStepCopies F.PAGES F.SLOTS F.SECTORS F.sector_start (F.state flash.old).words
         turn step older
         → HasStepCopies F.PAGES F.SLOTS F.SECTORS F.sector_start (F.state flash.new).words turn (step + 1) 0) }
+    ensures taken { IfOk result (λ n. n ≤ STEP_SLOTS) }
     ensures light { Tries 1 (F.state flash.old) (F.state flash.new) result }
-    // Behind fewer Faults than its sector has slots over, up to seven, it fails only if its erase did, and nothing else
-    // was begun.
+    // Each slot that it passes over failed.
+    ensures passes { IfOk result (λ n. n + (F.state flash.old).faults
+        ≤ STEP_PAGES + 1 + (F.state flash.new).faults) }
+    // Behind fewer Faults than its sector has slots over, up to seven, it fails only where nothing but its erase was
+    // begun.
     ensures keeps_trying { (t : ℕ) → t < TRIES → HoldsSlots F.PAGES F.SLOTS F.SECTORS F.sector_start t
         → IsErrOf result DeviceErr.Fault → ((F.state flash.old).faults + t ≤ (F.state flash.new).faults)
         ⊎ ((F.state flash.new).operations ≤ (F.state flash.old).operations + 1) }
     ensures work { Costs 35 2 (F.state flash.old) (F.state flash.new) }
-    // However often the flash fails, it erases the sector, and programs two times for each of these slots.
+    // However often the flash fails, it erases the sector, and programs two times for each of its slots.
+    ensures spends { IfOk result (λ n. (F.state flash.new).operations ≤ (F.state flash.old).operations + 1 + 2 * n) }
     ensures most { (F.state flash.new).operations ≤ (F.state flash.old).operations + 1 + 2 * STEP_SLOTS }
     ensures erases { (F.state flash.new).erases ≤ (F.state flash.old).erases + 1 }
 {
@@ -307,5 +317,6 @@ pub fn fill_sector<F: SectorFlash>(
     let first = spare_slot::<F>(turn, step);
     let end = spare_slots::<F>(turn, step + 1).min(first + STEP_SLOTS);
     let next = put_older(flash, turn, table, first, end - STEP_PAGES, older)?;
-    copy_pages(flash, turn, table, next, end, STEP_PAGES * step)
+    let behind = copy_pages(flash, turn, table, next, end, STEP_PAGES * step)?;
+    Ok(behind - first)
 }

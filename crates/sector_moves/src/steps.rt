@@ -9,7 +9,7 @@ ghost use Rattle.sector_moves.specs.SectorPlaces.{EndsSectorStep, HasTakenStep, 
 ghost use Rattle.sector_moves.specs.SectorSpares.{HasMovedSteps, HoldsSlots, last_sectors, sector_lead};
 ghost use Rattle.sector_moves.specs.SectorSpares.{spare_slot as spare_slot_of};
 
-use crate::filling::fill_sector;
+use crate::filling::{STEP_SLOTS, fill_sector};
 use crate::finding::area_again;
 use crate::layout::spare_slot;
 use crate::pace::lead;
@@ -95,8 +95,8 @@ fn erase_next<F: SectorFlash>(flash: &mut F, place: &mut PageMap<F::Table>) -> R
     Ok(())
 }
 
-/// Passes the turn to the other area, which has all pages. If its mark failed, the turn is looked for.
-fn end_move<F: SectorFlash>(flash: &mut F, place: &mut PageMap<F::Table>) -> Result<(), DeviceErr>
+/// Programs the mark that passes the turn to the other area, which has all pages. If it failed, the turn is looked for.
+fn pass_once<F: SectorFlash>(flash: &mut F, place: &mut PageMap<F::Table>) -> Result<(), DeviceErr>
     requires lit { (F.state flash.old).dark ≡ false }
     requires log { IsSectorLog F.Table.entries F.PAGES F.SLOTS F.SECTORS F.sector_start (F.state flash.old).words
         place.old }
@@ -112,10 +112,9 @@ fn end_move<F: SectorFlash>(flash: &mut F, place: &mut PageMap<F::Table>) -> Res
     ensures stays { OnErr result (place.new.ready ≡ true → StaysAtStep place.old place.new) }
     ensures unread { IsErrOf result DeviceErr.Fault → place.new.ready ≡ false
         → (F.state flash.old).faults + TRIES ≤ (F.state flash.new).faults }
-    // If it fails, the mark did, and the other area still has all pages; or each look for the turn failed.
-    ensures keeps_trying { IsErrOf result DeviceErr.Fault
-        → ((F.state flash.old).faults + TRIES ≤ (F.state flash.new).faults)
-        ⊎ HasMovedSteps F.PAGES F.SLOTS F.SECTORS F.sector_start (F.state flash.new).words place.old.turn }
+    // Where the turn stays, the other area still has all pages.
+    ensures moved { IsErrOf result DeviceErr.Fault → place.new.ready ≡ true
+        → HasMovedSteps F.PAGES F.SLOTS F.SECTORS F.sector_start (F.state flash.new).words place.old.turn }
     ensures next { OnOk result (place.new.next
         ≡ spare_slot_of F.SLOTS F.SECTORS F.sector_start place.old.turn (steps_of F.PAGES)) }
     ensures light { Tries 1 (F.state flash.old) (F.state flash.new) result }
@@ -167,6 +166,52 @@ fn put_place<T: PageTable>(
     place.ready = true;
 }
 
+/// Passes the turn to the other area, which has all pages. A mark that fails and leaves the turn is blank, so it is
+/// tried again, up to so many times.
+fn end_move<F: SectorFlash>(
+    flash: &mut F,
+    place: &mut PageMap<F::Table>,
+    tries: u16,
+) -> Result<(), DeviceErr>
+    requires lit { (F.state flash.old).dark ≡ false }
+    requires log { IsSectorLog F.Table.entries F.PAGES F.SLOTS F.SECTORS F.sector_start (F.state flash.old).words
+        place.old }
+    requires ready { place.old.ready ≡ true }
+    requires turn { place.old.turn ≢ 1 }
+    requires pages { HasMovedSteps F.PAGES F.SLOTS F.SECTORS F.sector_start (F.state flash.old).words place.old.turn }
+    requires tries { 1 ≤ tries }
+    ensures words { words_of F.PAGES F.SLOTS (F.state flash.new).words
+        ≡ words_of F.PAGES F.SLOTS (F.state flash.old).words }
+    ensures log { IsSectorLog F.Table.entries F.PAGES F.SLOTS F.SECTORS F.sector_start (F.state flash.new).words
+        place.new }
+    ensures step { OnOk result (HasTakenStep F.PAGES F.SLOTS F.SECTORS place.new) }
+    ensures ends { OnOk result (place.new.next + sector_lead F.SECTORS < F.SLOTS) }
+    ensures stays { OnErr result (place.new.ready ≡ true → StaysAtStep place.old place.new) }
+    ensures unread { IsErrOf result DeviceErr.Fault → place.new.ready ≡ false
+        → (F.state flash.old).faults + TRIES ≤ (F.state flash.new).faults }
+    // It fails only behind as many Faults as the mark has tries, or as a look for the turn has.
+    ensures keeps_trying { IsErrOf result DeviceErr.Fault
+        → ((F.state flash.old).faults + TRIES ≤ (F.state flash.new).faults)
+        ⊎ ((F.state flash.old).faults + tries ≤ (F.state flash.new).faults) }
+    ensures next { OnOk result (place.new.next
+        ≡ spare_slot_of F.SLOTS F.SECTORS F.sector_start place.old.turn (steps_of F.PAGES)) }
+    ensures light { Tries 1 (F.state flash.old) (F.state flash.new) result }
+    ensures work { Costs 1 2 (F.state flash.old) (F.state flash.new) }
+    ensures most { (F.state flash.new).operations ≤ (F.state flash.old).operations + tries }
+    ensures erases { (F.state flash.new).erases ≡ (F.state flash.old).erases }
+{
+    for _ in 1..tries {
+        match pass_once(flash, place) {
+            Err(DeviceErr::Fault) => {}
+            ended => return ended,
+        }
+        if !place.ready {
+            return Err(DeviceErr::Fault);
+        }
+    }
+    pass_once(flash, place)
+}
+
 /// Fills the next sector of the other area with copies. Behind the last one it passes the turn. If that fails, the move
 /// has come as far as before.
 fn fill_next<F: SectorFlash>(flash: &mut F, place: &mut PageMap<F::Table>) -> Result<(), DeviceErr>
@@ -185,12 +230,11 @@ fn fill_next<F: SectorFlash>(flash: &mut F, place: &mut PageMap<F::Table>) -> Re
     ensures stays { OnErr result (place.new.ready ≡ true → StaysAtStep place.old place.new) }
     ensures unread { IsErrOf result DeviceErr.Fault → place.new.ready ≡ false
         → (F.state flash.old).faults + TRIES ≤ (F.state flash.new).faults }
-    // Behind fewer Faults than its sector has slots over, up to seven, it fails only in two cases. Its erase failed,
-    // and nothing else was begun; or the mark failed that passes the turn, and the other area has all pages.
+    // Behind fewer Faults than its sector has slots over, up to seven, it fails only where nothing but its erase was
+    // begun.
     ensures keeps_trying { (t : ℕ) → t < TRIES → HoldsSlots F.PAGES F.SLOTS F.SECTORS F.sector_start t
         → IsErrOf result DeviceErr.Fault → ((F.state flash.old).faults + t ≤ (F.state flash.new).faults)
-        ⊎ (((F.state flash.new).operations ≤ (F.state flash.old).operations + 1)
-        ⊎ HasMovedSteps F.PAGES F.SLOTS F.SECTORS F.sector_start (F.state flash.new).words place.old.turn) }
+        ⊎ ((F.state flash.new).operations ≤ (F.state flash.old).operations + 1) }
     // The next slot stays, or a move has ended, and all slots behind those of its steps are free.
     ensures next { OnOk result ((place.new.next ≡ place.old.next) ⊎ (place.new.next
         ≡ spare_slot_of F.SLOTS F.SECTORS F.sector_start place.old.turn (steps_of F.PAGES))) }
@@ -199,9 +243,10 @@ fn fill_next<F: SectorFlash>(flash: &mut F, place: &mut PageMap<F::Table>) -> Re
     ensures most { (F.state flash.new).operations ≤ (F.state flash.old).operations + 48 }
     ensures erases { (F.state flash.new).erases ≤ (F.state flash.old).erases + 1 }
 {
-    fill_sector(flash, place.turn, &place.table, place.copied, place.older)?;
+    let taken = fill_sector(flash, place.turn, &place.table, place.copied, place.older)?;
     if place.copied + 1 == copy_steps::<F>() {
-        return end_move(flash, place);
+        // The programs of slots that weren't taken are left for its mark.
+        return end_move(flash, place, 1 + 2 * (STEP_SLOTS - taken));
     }
     place.older = 0;
     place.copied += 1;
@@ -227,14 +272,12 @@ pub fn take_step<F: SectorFlash>(
     // If it fails, and the pages are not known again, many more calls failed.
     ensures unread { IsErrOf result DeviceErr.Fault → place.new.ready ≡ false
         → (F.state flash.old).faults + TRIES ≤ (F.state flash.new).faults }
-    // If it has a page to copy again: behind fewer Faults than its sector has slots over, up to seven, it fails only in
-    // two cases. Its erase failed, and nothing else was begun; or the mark failed that passes the turn, and the other
-    // area has all pages.
+    // If it has a page to copy again: behind fewer Faults than its sector has slots over, up to seven, it fails only
+    // where nothing but its erase was begun.
     ensures keeps_trying { (t : ℕ) → t < TRIES → HoldsSlots F.PAGES F.SLOTS F.SECTORS F.sector_start t
         → place.old.older ≢ 0 → IsErrOf result DeviceErr.Fault
         → ((F.state flash.old).faults + t ≤ (F.state flash.new).faults)
-        ⊎ (((F.state flash.new).operations ≤ (F.state flash.old).operations + 1)
-        ⊎ HasMovedSteps F.PAGES F.SLOTS F.SECTORS F.sector_start (F.state flash.new).words place.old.turn) }
+        ⊎ ((F.state flash.new).operations ≤ (F.state flash.old).operations + 1) }
     ensures idle { place.old.next + sector_lead F.SECTORS < F.SLOTS
         → (place.new ≡ place.old) × (F.state flash.new ≡ F.state flash.old) }
     // The next slot stays, or a move has ended, and all slots behind those of its steps are free.

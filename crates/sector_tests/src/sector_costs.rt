@@ -50,11 +50,11 @@ fn cost_of(alloc: Global, pages: u32) -> Result<Cost, Fail>
 fn half_full_log_of_small_sectors_writes_less_than_three_records_a_write(
     rt: HostRuntime,
 ) -> Result<(), Fail> {
-    // A record takes two programs.
+    // A record takes two programs: 2.4 records a write, and 3.6 with all pages in use, as docs/FLASH.md says.
     let half = cost_of(rt.alloc(), 512)?;
-    assert!(rt; half.programs > 200_000 && half.programs < 600_000 && half.erases < 25_000);
+    assert!(rt; half.programs >= 470_000 && half.programs < 490_000 && half.erases < 25_000);
     let full = cost_of(rt.alloc(), 1024)?;
-    assert!(rt; full.programs > 400_000 && full.programs < 800_000 && full.erases < 25_000);
+    assert!(rt; full.programs >= 710_000 && full.programs < 730_000 && full.erases < 25_000);
     Ok(())
 }
 

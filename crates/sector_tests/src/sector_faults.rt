@@ -235,6 +235,42 @@ fn a_step_passes_over_six_slots_that_fail(rt: HostRuntime) -> Result<(), Fail> {
     Ok(())
 }
 
+/// Plays sessions until a move ends, in which the mark fails once that passes the turn. None gives up. Returns how many
+/// marks failed.
+fn fail_marks(
+    flash: SmallSectorFlash,
+    book: &mut Book,
+    first: u32,
+) -> Result<(SmallSectorFlash, u64), Fail> {
+    let (mut flash, moves, mut faults) = (flash, book.moves, 0u64);
+    for k in 0..100 {
+        let stop = Stop::in_close(book.turn).failing();
+        flash = play_next(flash, book, first.wrapping_add(k), stop)?;
+        if !book.last.is_done {
+            return Err(Fail::from("a write gives up behind one mark"));
+        }
+        faults = faults.saturating_add(book.counts.faults);
+        if book.moves != moves {
+            return Ok((flash, faults));
+        }
+    }
+    Err(Fail::from("no move ends"))
+}
+
+#[test]
+fn a_mark_that_fails_is_tried_again(rt: HostRuntime) -> Result<(), Fail> {
+    let (mut flash, mut book) = new_flash(rt.alloc(), 26)?;
+    let mut faults: u64 = 0;
+    for n in 0..12 {
+        flash = begin_move(flash, &mut book)?;
+        let (next, failed) = fail_marks(flash, &mut book, 7 * n)?;
+        faults = faults.saturating_add(failed);
+        flash = check_words(next, &mut book)?;
+    }
+    assert!(rt; book.moves == 12 && faults >= 12 && book.failures == 0);
+    Ok(())
+}
+
 /// Plays a session in which the erase of a step fails, if one is due: nothing else is begun but the two programs of the
 /// record, or a Fault is returned. The next session takes that step again. Returns whether it was due.
 fn fail_erase(

@@ -102,7 +102,7 @@ impl Stop {
     }
 
     /// The operation is set that passes the turn.
-    fn in_close(turn: u8) -> Stop {
+    pub fn in_close(turn: u8) -> Stop {
         let from = match turn {
             0 => AREA - 2,
             1 => 2 * AREA - 2,

@@ -1,5 +1,4 @@
 use Rattle.std.proofs.Common.{◌≡◌, ◌≤◌, ◌+◌, ◌-◌, ◌*◌, ℕ, List, sym, ap, subst, ◌∙◌, arith}
-use Rattle.std.proofs.lemmas.Result.{on_ok_weaker}
 use Rattle.flash_device.specs.declared.flash.TheConstants.{BLANK}
 use Rattle.flash_device.specs.FlashBlocks.{area_size, steps_of}
 use Rattle.flash_device.specs.FlashCalls.{AreFilled, SameElsewhere}
@@ -276,11 +275,6 @@ returns-clause-copies g c =
     let named_after : words ≡ words_of pages slots after =
     named_put ∙ sym (words_stay pages slots put after turn copied (turn_again g at.In_ok-next some is_mid)) in
     let all : 16 * step + 16 ≡ 16 * (step + 1) = omega arith in
-    on_ok_weaker c.copy_pages.result
-    (λ (copies : (below : ℕ) (l : List ℕ) → end ≤ below → l ≡ words_of pages slots put
-    → AreFree put base c.in_ok-next.next below
-    → HasSectorCopies pages slots put l home_base base below (16 * step) 0
-    → HasSectorCopies pages slots after l home_base base below (16 * step + 16) 0).
     λ (has : HasStepCopies pages slots sectors start m turn step older).
     let one : HasSectorCopies pages slots mid words home_base base whole (16 * step) older =
     subst (λ (n : ℕ). HasSectorCopies pages slots mid words home_base base n (16 * step) older) (sym is_whole)
@@ -290,11 +284,10 @@ returns-clause-copies g c =
     c.in_ok-next.ensures.copies whole (16 * step) words (omega (arith, some)) c.requires.step.1 named (free g begun)
     one in
     let three : HasSectorCopies pages slots after words home_base base whole (16 * step + 16) 0 =
-    copies whole words (omega (arith, some)) named_put
+    c.in_ok-behind.ensures.copies whole words (omega (arith, some)) named_put
     (c.in_ok-next.ensures.free whole (omega (arith, some)) (free g begun)) two in
     subst (λ (n : ℕ). HasSectorCopies pages slots after (words_of pages slots after) home_base base n
     (16 * (step + 1)) 0) is_whole
     (subst (λ (n : ℕ). HasSectorCopies pages slots after (words_of pages slots after) home_base base whole n 0) all
     (subst (λ (l : List ℕ). HasSectorCopies pages slots after l home_base base whole (16 * step + 16) 0) named_after
-    three)))
-    c.copy_pages.ensures.copies
+    three))

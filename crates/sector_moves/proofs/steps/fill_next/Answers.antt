@@ -18,13 +18,13 @@ leaves g c =
     c.requires.log c.requires.ready c.requires.moves.0
     (inl (omega arith, (c.requires.log.known c.requires.ready).place.spare.most)) c.fill_sector.ensures.elsewhere
 
-pub returns-in_err-fill_sector-clause-words : goal.returns-in_err-fill_sector-clause-words
-returns-in_err-fill_sector-clause-words g c =
-    (leaves g (goal.at.returns-in_err-fill_sector-clause-words g c).After-fill_sector).stays.words
+pub returns-in_err-taken-clause-words : goal.returns-in_err-taken-clause-words
+returns-in_err-taken-clause-words g c =
+    (leaves g (goal.at.returns-in_err-taken-clause-words g c).After-fill_sector).stays.words
 
-pub returns-in_err-fill_sector-clause-log : goal.returns-in_err-fill_sector-clause-log
-returns-in_err-fill_sector-clause-log g c =
-    (leaves g (goal.at.returns-in_err-fill_sector-clause-log g c).After-fill_sector).failed
+pub returns-in_err-taken-clause-log : goal.returns-in_err-taken-clause-log
+returns-in_err-taken-clause-log g c =
+    (leaves g (goal.at.returns-in_err-taken-clause-log g c).After-fill_sector).failed
 
 pub end_move-requires-clause-log : goal.end_move-requires-clause-log
 end_move-requires-clause-log g c = (leaves g (goal.at.end_move-requires-clause-log g c).After-fill_sector).failed
@@ -34,7 +34,7 @@ end_move-requires-clause-pages g c =
     let last : c.args.place.now.copied + 1 ≡ steps_of g.F.Flash.PAGES =
     c.if-place-copy_steps.true ∙ c.copy_steps.ensures in
     (leaves g (goal.at.end_move-requires-clause-pages g c).After-fill_sector).moved c.requires.moves.1 last
-    (c.in_ok-fill_sector.ensures.copies (c.requires.log.known c.requires.ready).place.spare.copies)
+    (c.in_ok-taken.ensures.copies (c.requires.log.known c.requires.ready).place.spare.copies)
 
 pub returns-then-place-copy_steps-clause-words : goal.returns-then-place-copy_steps-clause-words
 returns-then-place-copy_steps-clause-words g c =
@@ -52,4 +52,4 @@ returns-clause-log g c =
     let steps = c.copy_steps.ensures in
     let fewer : c.args.place.now.copied + 1 < steps_of g.F.Flash.PAGES = omega (arith, more, steps, most) in
     (leaves g (goal.at.returns-clause-log g c).After-fill_sector).copied c.requires.moves.1 fewer c.requires.due
-    (c.in_ok-fill_sector.ensures.copies known.spare.copies)
+    (c.in_ok-taken.ensures.copies known.spare.copies)

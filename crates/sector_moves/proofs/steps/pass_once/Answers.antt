@@ -1,4 +1,4 @@
-use Rattle.std.proofs.Common.{◌≡◌, ◌≢◌, ◌<◌, ◌+◌, ℕ, List, refl, sym, ap, inr, subst, ◌∙◌, true, false, true≢false}
+use Rattle.std.proofs.Common.{◌≡◌, ◌≢◌, ◌<◌, ◌+◌, ℕ, List, refl, sym, ap, subst, ◌∙◌, true, false, true≢false}
 use Rattle.std.proofs.Common.{arith}
 use Rattle.flash_device.specs.FlashBlocks.{steps_of}
 use Rattle.flash_device.specs.FlashLogs.{base_in, turn_of, words_of}
@@ -10,9 +10,9 @@ use Rattle.sector_moves.specs.SectorSpares.{HasMovedSteps, sector_lead, spare_sl
 use Rattle.sector_moves.specs.laws.Keeping.{moved_copies, moved_place, pass_steps}
 use Rattle.sector_moves.specs.laws.Passing.{turn_passed, turn_stays, turn_unknown}
 use Rattle.sector_moves.specs.laws.Stepping.{sector_steps_most}
-use Rattle.sector_moves.proofs.steps.end_move.Given.{Over}
-use Rattle.sector_moves.proofs.steps.end_move.Goals.{After-pass_turn}
-use Rattle.sector_moves.proofs.steps.end_move.Goals as goal
+use Rattle.sector_moves.proofs.steps.pass_once.Given.{Over}
+use Rattle.sector_moves.proofs.steps.pass_once.Goals.{After-pass_turn}
+use Rattle.sector_moves.proofs.steps.pass_once.Goals as goal
 
 -- the pages have to be found again
 unknown : (g : Over) (c : After-pass_turn g) (q : PageMap g.row.F-Table.Denot) → q.ready ≡ false → q.tried ≡ 0
@@ -120,8 +120,8 @@ returns-then-turn-was-clause-log g c =
     c.in_ok-turn.ensures.index))))
 
 -- the other area still has all pages
-pub returns-then-turn-was-clause-keeps_trying : goal.returns-then-turn-was-clause-keeps_trying
-returns-then-turn-was-clause-keeps_trying g c = λ failed.
+pub returns-then-turn-was-clause-moved : goal.returns-then-turn-was-clause-moved
+returns-then-turn-was-clause-moved g c = λ failed ready.
     let fit = g.met.F.Flash.sectors_fit in
     let slots = g.F.Flash.SLOTS in
     let pages = g.F.Flash.PAGES in
@@ -129,13 +129,11 @@ returns-then-turn-was-clause-keeps_trying g c = λ failed.
     let start = g.F.Flash.sector_start in
     let place = c.args.place.now in
     let at = (c.requires.log.known c.requires.ready).place in
-    let moved : HasMovedSteps pages slots sectors start (g.F.Flash.state c.area_again.new.flash).words place.turn =
     subst (λ (l : List ℕ). HasMovedSteps pages slots sectors start l place.turn) (sym c.area_again.ensures.words)
     (pass_steps pages slots sectors start g.met.F.Flash.sectors_rise fit.0 fit.1 fit.2
     g.met.F.SectorFlash.sectors_left g.met.F.Flash.pages_fit.2 (g.F.Flash.state c.args.flash.now).words place.turn
     (g.met.F.SectorFlash.slots_left place.turn) c.requires.pages (g.F.Flash.state c.pass_turn.new.flash).words
-    c.requires.log.ring at.turn at.small c.requires.turn c.pass_turn.ensures.elsewhere) in
-    inr moved
+    c.requires.log.ring at.turn at.small c.requires.turn c.pass_turn.ensures.elsewhere)
 
 pub returns-clause-log : goal.returns-clause-log
 returns-clause-log g c =
