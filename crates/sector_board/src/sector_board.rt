@@ -280,9 +280,10 @@ impl<F: SectorFlash> Board for SectorBoard<F> {
         ensures tries { IsErrOf result DeviceErr.Fault → sector_lead F.SECTORS < (sector_state self.old).free
             → ((sector_state self.old).flash.faults + TRIES ≤ (sector_state self.new).flash.faults)
             × ((sector_state self.new).free + TRIES ≤ (sector_state self.old).free) }
-        // In a move too it fails only if more tries did than slots were free beside those of the steps, or eight; or if
-        // a step failed that has yet to copy another page again. Such a step ends at fewer Faults than its sector has
-        // slots over, up to seven, only if nothing but its erase was begun, or at the mark that passes the turn.
+        // In a move too it fails only behind eight Faults; or behind more than slots were free beside those of the
+        // steps, where the steps need all that are left; or if a step failed that has yet to copy another page again.
+        // Such a step ends behind fewer Faults than its sector has slots over, up to seven, only where nothing but its
+        // erase was begun.
         ensures keeps_trying { (k : ℕ) → IsErrOf result DeviceErr.Fault → 0 < (sector_state self.old).free
             → (sector_state self.old).steps + k ≤ (sector_state self.old).free
             → GivesUpBehind F.PAGES F.SLOTS F.SECTORS F.sector_start page k (sector_state self.old)

@@ -7,7 +7,7 @@ use Rattle.flash_moves.specs.Paces.{free_slots, is_fresh}
 use Rattle.flash_moves.specs.Places.{state_of}
 use Rattle.flash_device.specs.FlashLogs.{turn_of}
 use Rattle.sector_moves.specs.SectorPlaces.{place_steps}
-use Rattle.sector_moves.specs.SectorSpares.{HasMovedSteps, HasOlderCopy, HoldsSlots, IsSectorSpare, sector_steps}
+use Rattle.sector_moves.specs.SectorSpares.{HasOlderCopy, HoldsSlots, IsSectorSpare, sector_steps}
 
 -- All that contracts know of a log: its flash, with the words of the board in place of its own, whether it has yet to
 -- look for its pages, and has tried no slot, up to which slot writes were tried, the free slots of the area in use that
@@ -68,7 +68,7 @@ pub record FindsSteps (pages slots sectors : ℕ) (start : ℕ → ℕ) (l : Sec
 
 -- A write stops at its step: the copy of another page may be older, and the step that copies it again failed. No step
 -- is taken, and no slot is passed over. Behind fewer faults than its sector has slots over, up to seven, it fails only
--- where nothing but its erase was begun, or the other area has all pages: then the mark is left that passes the turn.
+-- where nothing but its erase was begun.
 pub record StopsAtStep (pages slots sectors : ℕ) (start : ℕ → ℕ) (page : ℕ) (old new : SectorLogState)
     : Type 0 where
   pub some : old.older ≢ 0
@@ -77,13 +77,14 @@ pub record StopsAtStep (pages slots sectors : ℕ) (start : ℕ → ℕ) (page :
   pub steps : new.steps ≡ old.steps
   pub free : new.free ≡ old.free
   pub why : (t : ℕ) → t < TRIES → HoldsSlots pages slots sectors start t
-      → (old.flash.faults + t ≤ new.flash.faults) ⊎ ((new.flash.operations ≤ old.flash.operations + 1)
-      ⊎ HasMovedSteps pages slots sectors start new.raw (turn_of slots new.raw))
+      → (old.flash.faults + t ≤ new.flash.faults) ⊎ (new.flash.operations ≤ old.flash.operations + 1)
 
--- A write gives up behind eight faults, or behind more than these, or stops at its step.
+-- A write gives up behind eight faults; or behind more than these, where the steps need all slots that are left; or it
+-- stops at its step.
 abbrev pub GivesUpBehind : ℕ → ℕ → ℕ → (ℕ → ℕ) → ℕ → ℕ → SectorLogState → SectorLogState → Type 0
 GivesUpBehind pages slots sectors start page k old new = (old.flash.faults + TRIES ≤ new.flash.faults)
-    ⊎ ((old.flash.faults + k < new.flash.faults) ⊎ StopsAtStep pages slots sectors start page old new)
+    ⊎ (((old.flash.faults + k < new.flash.faults) × (0 < new.free) × (new.free ≤ new.steps))
+    ⊎ StopsAtStep pages slots sectors start page old new)
 
 -- Beside the slots of the steps, no fewer are free than before, or than the tries of a write, but for one for each
 -- fault of the flash.

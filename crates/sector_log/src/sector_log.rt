@@ -187,9 +187,10 @@ impl<F: SectorFlash> SectorLog<F> {
         ensures tries { sector_lead F.SECTORS < self.old.free → Tries TRIES self.old.flash self.new.flash result }
         ensures gives_up { IsErrOf result DeviceErr.Fault → sector_lead F.SECTORS < self.old.free
             → self.new.free + TRIES ≤ self.old.free }
-        // In a move too it fails only if more tries did than slots were free beside those of the steps, or eight; or if
-        // a step failed that has yet to copy another page again. Such a step ends at fewer Faults than its sector has
-        // slots over, up to seven, only if nothing but its erase was begun, or at the mark that passes the turn.
+        // In a move too it fails only behind eight Faults; or behind more than slots were free beside those of the
+        // steps, where the steps need all that are left; or if a step failed that has yet to copy another page again.
+        // Such a step ends behind fewer Faults than its sector has slots over, up to seven, only where nothing but its
+        // erase was begun.
         ensures keeps_trying { (k : ℕ) → 0 < self.old.free → self.old.steps + k ≤ self.old.free
             → IsErrOf result DeviceErr.Fault
             → GivesUpBehind F.PAGES F.SLOTS F.SECTORS F.sector_start page k self.old self.new }

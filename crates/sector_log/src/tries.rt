@@ -182,9 +182,9 @@ fn make_ready<F: SectorFlash>(
     ensures beside { OnOk result (place.old.ready ≡ true → HasBeside F.PAGES F.SLOTS F.SECTORS
         (F.state flash.old).faults (F.state flash.new).faults place.old place.new) }
     ensures stays { OnErr result (place.old.ready ≡ true → place.new.ready ≡ true → StaysAtStep place.old place.new) }
-    // In a move too it fails only if more tries did than slots were free beside those of the steps, or eight; or if a
-    // step failed that has yet to copy another page again. Such a step ends at fewer Faults than its sector has slots
-    // over, up to seven, only if nothing but its erase was begun, or at the mark that passes the turn.
+    // In a move too it fails only behind eight Faults; or behind more than slots were free beside those of the steps,
+    // where the steps need all that are left; or if a step failed that has yet to copy another page again. Such a step
+    // ends behind fewer Faults than its sector has slots over, up to seven, only where nothing but its erase was begun.
     ensures keeps_trying { (k : ℕ) → 0 < free_slots F.SLOTS place.old
         → known_sector_steps F.PAGES F.SECTORS place.old + k ≤ free_slots F.SLOTS place.old
         → IsErrOf result DeviceErr.Fault
@@ -276,9 +276,9 @@ pub fn write_at<F: SectorFlash>(
         → Tries TRIES (F.state flash.old) (F.state flash.new) result }
     ensures gives_up { IsErrOf result DeviceErr.Fault → sector_lead F.SECTORS < free_slots F.SLOTS place.old
         → free_slots F.SLOTS place.new + TRIES ≤ free_slots F.SLOTS place.old }
-    // In a move too it fails only if more tries did than slots were free beside those of the steps, or eight; or if a
-    // step failed that has yet to copy another page again. Such a step ends at fewer Faults than its sector has slots
-    // over, up to seven, only if nothing but its erase was begun, or at the mark that passes the turn.
+    // In a move too it fails only behind eight Faults; or behind more than slots were free beside those of the steps,
+    // where the steps need all that are left; or if a step failed that has yet to copy another page again. Such a step
+    // ends behind fewer Faults than its sector has slots over, up to seven, only where nothing but its erase was begun.
     ensures keeps_trying { (k : ℕ) → 0 < free_slots F.SLOTS place.old
         → known_sector_steps F.PAGES F.SECTORS place.old + k ≤ free_slots F.SLOTS place.old
         → IsErrOf result DeviceErr.Fault

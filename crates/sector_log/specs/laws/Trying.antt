@@ -6,13 +6,12 @@ use Rattle.nvm_board.specs.declared.board.DeviceErr.{DeviceErr}
 use Rattle.nvm_board.specs.declared.board.DeviceErr.TheVariants.{Fault, PowerLost}
 use Rattle.flash_device.specs.FlashBlocks.{steps_of}
 use Rattle.flash_device.specs.FlashCalls.{FlashState, KeepsPower, Tries}
-use Rattle.flash_device.specs.FlashLogs.{turn_of}
 use Rattle.flash_moves.specs.declared.place.PageMap.{PageMap}
 use Rattle.flash_moves.specs.Paces.{free_slots}
 use Rattle.flash_moves.specs.Places.{state_of}
 use Rattle.flash_moves.specs.declared.ahead.TheConstants.{TRIES}
 use Rattle.sector_moves.specs.SectorPlaces.{EndsSectorStep, KeepsStep, StaysAtStep, place_steps}
-use Rattle.sector_moves.specs.SectorSpares.{HasFewestSteps, HasMovedSteps, HoldsSlots, IsSectorSpare, sector_lead}
+use Rattle.sector_moves.specs.SectorSpares.{HasFewestSteps, HoldsSlots, IsSectorSpare, sector_lead}
 use Rattle.sector_moves.specs.SectorSpares.{sector_steps}
 use Rattle.sector_moves.specs.laws.Stepping.{sector_steps_most}
 use Rattle.sector_log.specs.SectorLogs.{HasBeside, KeepsBeside, StopsAtStep, known_older, known_sector_steps}
@@ -204,17 +203,24 @@ module _ {T : Type 0} (pages slots sectors : ℕ) (p q : PageMap T) where
 
   -- where no slot is left beside those of the steps, more tries failed than there were, or as many as a write has
   pub beside_spent : {S : Type 0} (before after k : ℕ) → HasBeside pages slots sectors before after p q
+      → q.ready ≡ true → place_steps pages sectors q + q.next ≤ slots → q.copied < steps_of pages
       → slots ≤ place_steps pages sectors q + q.next → 0 < free_slots slots p
       → known_sector_steps pages sectors p + k ≤ free_slots slots p
-      → (before + TRIES ≤ after) ⊎ ((before + k < after) ⊎ S)
-  beside_spent before after k was full some room =
+      → (before + TRIES ≤ after)
+      ⊎ (((before + k < after) × (0 < free_slots slots q)
+      × (free_slots slots q ≤ known_sector_steps pages sectors q)) ⊎ S)
+  beside_spent before after k was ready fits more full some room =
       let known = free_known slots p some in
       let free = known.1 in
       let steps = steps_known pages sectors p known.0 in
       ⊎_elim
       (λ (z : place_steps pages sectors q + q.next + 1 + before ≤ place_steps pages sectors p + p.next + after).
       let x : before + k < after = omega (arith, z, full, free, steps, room, some) in
-      inr (inl x))
+      let new_free = free_is slots q ready in
+      let new_steps = steps_known pages sectors q ready in
+      let none : free_slots slots q ≤ known_sector_steps pages sectors q = omega (arith, full, new_free, new_steps) in
+      let left : 0 < free_slots slots q = omega (arith, fits, more, new_free) in
+      inr (inl (x, left, none)))
       (λ (z : place_steps pages sectors q + q.next + TRIES + 1 + before ≤ slots + after).
       let x : before + TRIES ≤ after = omega (arith, z, full) in
       inl x)
@@ -271,13 +277,11 @@ module _ {T : Type 0} (pages slots sectors : ℕ) (p q : PageMap T) where
   -- a write stops where another copy may be older, by why its step failed
   pub stops_at : (start : ℕ → ℕ) (s t : FlashState) (page : ℕ) → p.ready ≡ true → StaysAtStep p q → q.older ≢ 0
       → q.older ≢ page + 1
-      → turn_of slots t.words ≡ q.turn
       → ((n : ℕ) → n < TRIES → HoldsSlots pages slots sectors start n → p.older ≢ 0
-      → (s.faults + n ≤ t.faults) ⊎ ((t.operations ≤ s.operations + 1)
-      ⊎ HasMovedSteps pages slots sectors start t.words p.turn))
+      → (s.faults + n ≤ t.faults) ⊎ (t.operations ≤ s.operations + 1))
       → StopsAtStep pages slots sectors start page (sector_log_value pages slots sectors s p)
       (sector_log_value pages slots sectors t q)
-  stops_at start s t page ready same some other turn why =
+  stops_at start s t page ready same some other why =
       let old_older = older_known p ready in
       let new_older = older_known q same.ready in
       let older = same.older in record {
@@ -287,7 +291,5 @@ module _ {T : Type 0} (pages slots sectors : ℕ) (p q : PageMap T) where
         steps = steps_known pages sectors q same.ready ∙ same_steps pages sectors p q same
             ∙ sym (steps_known pages sectors p ready);
         free = free_is slots q same.ready ∙ ap (λ (n : ℕ). slots - n) same.next ∙ sym (free_is slots p ready);
-        why = λ n few holds. subst (λ (r : ℕ). (s.faults + n ≤ t.faults) ⊎ ((t.operations ≤ s.operations + 1)
-            ⊎ HasMovedSteps pages slots sectors start t.words r)) (sym (turn ∙ same.turn))
-            (why n few holds (λ e. some (older ∙ e)));
+        why = λ n few holds. why n few holds (λ e. some (older ∙ e));
       }

@@ -1,4 +1,4 @@
-use Rattle.std.proofs.Common.{◌≡◌, ◌≤◌, ◌+◌, Err, ap, inl, inr, subst, sym, arith}
+use Rattle.std.proofs.Common.{◌≡◌, ◌≤◌, ◌+◌, Err, ap, inl, inr, subst, arith}
 use Rattle.flash_device.specs.FlashCalls.{FlashState}
 use Rattle.flash_moves.specs.declared.place.PageMap.{PageMap}
 use Rattle.sector_log.specs.SectorLogs.{StopsAtStep, sector_log_value}
@@ -24,10 +24,9 @@ returns-then-not-may_put-clause-keeps_trying g c = λ k some room failed.
     (λ ready.
     let stays = c.in-Err-Fault.ensures.stays ready in
     let no = c.may_put.ensures.no c.if-not-may_put.true in
-    let turn = (c.take_step.ensures.log.known ready).place.turn in
     let stops : StopsAtStep pages slots sectors start page (sector_log_value pages slots sectors mid p)
     (sector_log_value pages slots sectors new q) =
-    stops_at pages slots sectors p q start mid new page c.in_ok-look.ensures.ready stays no.0 no.1 (sym turn)
+    stops_at pages slots sectors p q start mid new page c.in_ok-look.ensures.ready stays no.0 no.1
     (λ n few holds older. c.in-Err-Fault.ensures.keeps_trying n few holds older fault) in
     let there : StopsAtStep pages slots sectors start page (sector_log_value pages slots sectors mid place)
     (sector_log_value pages slots sectors new q) =

@@ -125,6 +125,7 @@ returns-then-not-has_slot-clause-keeps_trying g c = λ k some room e.
     beside_spent pages slots sectors place q old.faults new.faults k
     (beside_again pages slots sectors place c.loop.place old.faults mid.faults new.faults q
     (c.loop.invariant.beside known) moved.0 moved.2 more)
+    ready (c.write_once.ensures.log.known ready).room (c.write_once.ensures.log.known ready).place.spare.most
     (c.has_slot.ensures.no c.if-not-has_slot.true ready) some room)
     (λ unready.
     let steady = c.loop.invariant.steady.faults in

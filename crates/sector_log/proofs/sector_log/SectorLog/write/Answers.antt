@@ -1,7 +1,6 @@
-use Rattle.std.proofs.Common.{◌⊎◌, ◌<◌, ◌≤◌, ◌+◌, ℕ, IsErrOf, subst}
+use Rattle.std.proofs.Common.{◌<◌, ◌≤◌, ◌+◌, ℕ, IsErrOf, subst}
 use Rattle.nvm_board.specs.declared.board.DeviceErr.TheVariants.{Fault}
-use Rattle.sector_log.specs.SectorLogs.{SectorLogState, StopsAtStep, sector_log_value}
-use Rattle.flash_moves.specs.declared.ahead.TheConstants.{TRIES}
+use Rattle.sector_log.specs.SectorLogs.{GivesUpBehind, SectorLogState, sector_log_value}
 use Rattle.sector_log.proofs.sector_log.SectorLog.write.Goals as goal
 
 pub returns-clause-keeps_trying : goal.returns-clause-keeps_trying
@@ -11,7 +10,6 @@ returns-clause-keeps_trying g c =
     let sectors = g.F.Flash.SECTORS in
     let start = g.F.Flash.sector_start in
     let new = g.F.Flash.state c.write_at.new.flash in
+    let last = sector_log_value pages slots sectors new c.write_at.new.place in
     subst (λ (l : SectorLogState). (k : ℕ) → 0 < l.free → l.steps + k ≤ l.free → IsErrOf c.write_at.result Fault
-    → (l.flash.faults + TRIES ≤ new.faults) ⊎ ((l.flash.faults + k < new.faults)
-    ⊎ StopsAtStep pages slots sectors start c.args.page l
-    (sector_log_value pages slots sectors new c.write_at.new.place))) c.self.view_is c.write_at.ensures.keeps_trying
+    → GivesUpBehind pages slots sectors start c.args.page k l last) c.self.view_is c.write_at.ensures.keeps_trying
