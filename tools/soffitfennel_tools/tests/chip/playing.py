@@ -1,7 +1,6 @@
 """Plays scripts on the programs of examples/chip: on this machine, and on boards of qemu."""
 from __future__ import annotations
 
-import os
 import re
 import select
 import subprocess
@@ -132,7 +131,7 @@ def started(target: Target, program: Path, *words: str) -> Iterator[Port]:
         try:
             yield port
         finally:
-            os.close(port.file)
+            port.close()
 
 
 @contextmanager

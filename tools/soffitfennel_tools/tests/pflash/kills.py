@@ -8,6 +8,7 @@ import subprocess
 import threading
 import time
 from concurrent.futures import ThreadPoolExecutor
+from contextlib import closing
 from dataclasses import dataclass, field
 from pathlib import Path
 
@@ -101,15 +102,15 @@ def live(program: Path, flash: Path, known: Known, told: Told, chance: random.Ra
         timer = threading.Timer(seconds, process.kill)
         try:
             # (a pseudo-terminal that is not open yet may be another card's behind the kill)
-            port = serial.Port(port_of(process))
-            if from_power_on:
-                timer.start()
-            life = Life(Script(port), known, told, chance)
-            life.begin()
-            if not from_power_on:
-                timer.start()
-            while not told.wrong:
-                life.step()
+            with closing(serial.Port(port_of(process))) as port:
+                if from_power_on:
+                    timer.start()
+                life = Life(Script(port), known, told, chance)
+                life.begin()
+                if not from_power_on:
+                    timer.start()
+                while not told.wrong:
+                    life.step()
         except (serial.Stopped, OSError):
             # (the port has closed: unless the kill has closed it, something is wrong)
             life_ended(process, told)

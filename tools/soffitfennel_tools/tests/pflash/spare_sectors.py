@@ -10,6 +10,7 @@ import time
 from array import array
 from collections.abc import Iterable
 from concurrent.futures import ThreadPoolExecutor
+from contextlib import closing
 from dataclasses import dataclass
 from pathlib import Path
 
@@ -241,12 +242,12 @@ def live_worn(program: Path, flash: Path, known: Known, told: Told, chance: rand
     with emulator(program, flash) as process:
         killing = threading.Thread(target=kill_behind, args=(process, flash, seconds, chance))
         try:
-            port = serial.Port(port_of(process))
-            killing.start()
-            life = Life(Script(port), known, told, chance)
-            life.begin()
-            while not told.wrong:
-                life.step()
+            with closing(serial.Port(port_of(process))) as port:
+                killing.start()
+                life = Life(Script(port), known, told, chance)
+                life.begin()
+                while not told.wrong:
+                    life.step()
         except (serial.Stopped, OSError):
             # (the port has closed: unless the kill has closed it, something is wrong)
             life_ended(process, told)
