@@ -7,6 +7,7 @@ use Rattle.pin_store.specs.declared.layout.TheConstants.{FIRST_PIN_PAGE, PIN_MAR
 use Rattle.card_model.specs.declared.pins.TheConstants.{PINS}
 use Rattle.card_model.specs.declared.limits.TheConstants.{TRIES, UNBLOCKING_TRIES}
 use Rattle.card_model.specs.Secrets.{Pin, enabled_pin}
+use Rattle.undo_journal.specs.Wiping.{NamesPages}
 
 -- The page of a PIN. PIN 1 has index 0.
 abbrev pub pin_page : ℕ → ℕ
@@ -79,3 +80,7 @@ pub record SetsPin (m : List ℕ) (pin : ℕ) (now : Pin) (after : List ℕ) : T
   pub elsewhere : (k : ℕ) → IsApart pin k → slice_index after k ≡ slice_index m k
   pub becomes : pin_at after pin ≡ now
   pub mark : IsMark m pin → IsMark after pin
+
+-- A pair of the journal, whether it counts or not, names a word of a PIN's page.
+abbrev pub NamesPins : List ℕ → Type 0
+NamesPins m = NamesPages FIRST_PIN_PAGE (FIRST_PIN_PAGE + PINS) m

@@ -11,3 +11,4 @@ pub mod Telling
 pub mod Noted
 pub mod SetRuns
 pub mod PairChanges
+pub mod PairPages

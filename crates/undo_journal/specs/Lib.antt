@@ -18,3 +18,4 @@ pub mod JournalParts
 pub mod StoreCalls
 pub mod laws
 pub mod Wiping
+pub mod ClearingParts

@@ -12,3 +12,4 @@ pub mod Endings
 pub mod Waits
 pub mod Runs
 pub mod Joining
+pub mod Naming

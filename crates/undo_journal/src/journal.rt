@@ -32,7 +32,7 @@ pub(crate) fn write_gate<B: Board>(board: &mut B, count: u16) -> Result<(), Devi
 }
 
 /// Returns the address of a pair of the journal.
-fn pair_address(i: u16) -> Address
+pub(crate) fn pair_address(i: u16) -> Address
     requires { i < PAIRS }
     ensures { result.number ≡ JOURNAL + 2 * i }
 {

@@ -18,4 +18,4 @@ pub use layout::{GATE, JOURNAL_END};
 pub use nvm_board::{Armed, Board, DeviceErr, Faultless, PAGE_WORDS};
 pub use store::Store;
 pub use txn::Txn;
-pub use wiping::wipe_pairs;
+pub use wiping::{clear_pairs, names_pages, wipe_pairs};

@@ -1,0 +1,11 @@
+use Rattle.std.proofs.Common.{◌≡◌, ◌⊎◌, ◌<◌, ◌+◌, ◌*◌, ℕ, slice_index}
+use Rattle.nvm_board.specs.Facts.{Steady, address}
+use Rattle.undo_journal.specs.Spending.{KeepsBoard}
+use Rattle.undo_journal.proofs.wiping.is_clear.Given as goal
+
+abbrev pub invariant-loop-i : goal.invariant-loop-i
+invariant-loop-i g l = let first = g.B.Board.facts l.initial.board in let now = g.B.Board.facts l.board in record {
+  steady : (l.i ≡ 0 × now ≡ first) ⊎ Steady first now;
+  reads : KeepsBoard first now;
+  clear : (k : ℕ) → k < l.i → slice_index first.words (address l.page (2 * k + 1)) ≡ 0;
+}
