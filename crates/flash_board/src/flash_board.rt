@@ -240,8 +240,7 @@ impl<F: Flash> Board for FlashBoard<F> {
     ghost use Rattle.flash_moves.specs.Paces.{CopiesNoPage, IsInPace, IsRoomy, Pauses, RegainsSlots, StandsInPace};
     ghost use Rattle.flash_moves.specs.Paces.{StaysInArea, TakesSlot, extra_of, failed_since, lead_of, lost_since};
     ghost use Rattle.flash_moves.specs.Places.{FindsFree};
-    ghost use Rattle.flash_log.specs.SlotsInTurn.{BeginsBy, GivesUp, SameNext, TakesInTurn, WillTake};
-    ghost use Rattle.flash_log.specs.SlotsInTurn.{MeetsMoreOrPassesFewer};
+    ghost use Rattle.flash_log.specs.SlotsInTurn.{BeginsBy, GivesUp, SameNext, TakesInTurn, TriesOn, WillTake};
     ghost use Rattle.flash_log.specs.StepsLeft.{HasFewestLeft};
     ghost use Rattle.flash_moves.specs.declared.ahead.TheConstants.{TRIES};
     ghost use Rattle.flash_board.specs.laws.Boards.{flash_is_board};
@@ -376,15 +375,15 @@ impl<F: Flash> Board for FlashBoard<F> {
             → BeginsBy F.SLOTS (log_state self.old) n → BeginsBy F.SLOTS (log_state self.new)
             (n + ((log_state self.new).flash.faults - (log_state self.old).flash.faults)) }
         // In pace, with so many slots beside those of the steps, fewer than eight, it gives up only behind more Faults
-        // than these, or where it passed over fewer slots than it met Faults: one of them was no failed slot. Or the
-        // pages moved.
+        // than these, or where it passed over fewer slots than it met Faults: one of them was no failed slot. Each try
+        // met a Fault, or it passed over more slots than these, or its step isn't taken. Or the pages moved.
         ensures keeps_on { IsErrOf result DeviceErr.Fault → (extra k : ℕ) → k < TRIES
             → IsRoomy F.PAGES F.SLOTS F.SECTORS
             (extra + failed_since (log_state self.old).flash (log_state self.new).flash)
             → (log_state self.old).paced ≡ true → (log_state self.old).extra ≤ extra
             → (log_state self.old).left + k ≤ (log_state self.old).free
             → StaysInArea F.SLOTS (log_state self.old).raw (log_state self.new).raw
-            → MeetsMoreOrPassesFewer F.SLOTS k (log_state self.old) (log_state self.new) }
+            → TriesOn F.PAGES F.SLOTS F.SECTORS F.sector_start page k (log_state self.old) (log_state self.new) }
         // With the slots for all tries each meets one Fault at most.
         ensures tries { (n : ℕ) → n + lead_of F.PAGES F.SECTORS + TRIES ≤ F.SLOTS
             → WillTake F.SLOTS (log_state self.old) n

@@ -56,8 +56,7 @@ impl<F: Flash> FlashLog<F> {
     ghost use Rattle.flash_device.specs.PageTables.{AreFree};
     ghost use Rattle.flash_moves.specs.Paces.{IsInPace, StandsInPace, StaysInArea};
     ghost use Rattle.flash_moves.specs.Rings.{IsRing};
-    ghost use Rattle.flash_log.specs.SlotsInTurn.{BeginsBy, GivesUp, SameNext, TakesInTurn, MeetsMoreOrPassesFewer};
-    ghost use Rattle.flash_log.specs.SlotsInTurn.{WillTake};
+    ghost use Rattle.flash_log.specs.SlotsInTurn.{BeginsBy, GivesUp, SameNext, TakesInTurn, TriesOn, WillTake};
     ghost use Rattle.flash_log.specs.StepsLeft.{HasFewestLeft, ShowsLeft};
 
     /// The log of a flash that has one.
@@ -250,13 +249,13 @@ impl<F: Flash> FlashLog<F> {
             → StaysInArea F.SLOTS self.old.raw self.new.raw → BeginsBy F.SLOTS self.old n
             → BeginsBy F.SLOTS self.new (n + (self.new.flash.faults - self.old.flash.faults)) }
         // In pace, with so many slots beside those of the steps, fewer than eight, it gives up only behind more Faults
-        // than these, or where it passed over fewer slots than it met Faults: one of them was no failed slot. Or the
-        // pages moved.
+        // than these, or where it passed over fewer slots than it met Faults: one of them was no failed slot. Each try
+        // met a Fault, or it passed over more slots than these, or its step isn't taken. Or the pages moved.
         ensures keeps_on { IsErrOf result DeviceErr.Fault → (extra k : ℕ) → k < TRIES
             → IsRoomy F.PAGES F.SLOTS F.SECTORS (extra + failed_since self.old.flash self.new.flash)
             → self.old.paced ≡ true → self.old.extra ≤ extra → self.old.left + k ≤ self.old.free
             → StaysInArea F.SLOTS self.old.raw self.new.raw
-            → MeetsMoreOrPassesFewer F.SLOTS k self.old self.new }
+            → TriesOn F.PAGES F.SLOTS F.SECTORS F.sector_start page k self.old self.new }
         // With the slots for all tries each meets one Fault at most.
         ensures tries { (n : ℕ) → n + lead_of F.PAGES F.SECTORS + TRIES ≤ F.SLOTS → WillTake F.SLOTS self.old n
             → self.new.flash.faults ≤ self.old.flash.faults + TRIES }

@@ -115,6 +115,9 @@ pub fn find_again<F: Flash>(
         → steps_left_of F.PAGES F.SECTORS place.old + place.old.tried < F.SLOTS
         → OwnsOlder page place.new × (steps_left_of F.PAGES F.SECTORS place.new + place.new.next
         ≡ steps_left_of F.PAGES F.SECTORS place.old + place.old.tried)) }
+    // At every exit the move has come as far.
+    ensures known { kept.old ≡ true → steps_left_of F.PAGES F.SECTORS place.old + place.old.tried < F.SLOTS
+        → (kept.new ≡ true) × (steps_left_of F.PAGES F.SECTORS place.new ≡ steps_left_of F.PAGES F.SECTORS place.old) }
     ensures in_pace { OnOk result ((extra : ℕ) → extra ≤ extra_of F.PAGES F.SLOTS F.SECTORS
         → WillPace kept.old F.PAGES F.SLOTS F.SECTORS F.sector_start (F.state flash.old).words extra place.old
         → KeepsPace F.PAGES F.SLOTS F.SECTORS extra place.new) }

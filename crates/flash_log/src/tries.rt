@@ -12,7 +12,8 @@ ghost use Rattle.flash_moves.specs.Paces.{failed_since, free_slots, lead_of, los
 ghost use Rattle.flash_moves.specs.Paces.{steps_left as steps_left_of};
 ghost use Rattle.flash_moves.specs.Places.{FindsFree, IsLog, log_value};
 ghost use Rattle.flash_log.specs.KeptParts.{IsPacedBehind, KeepsPlace, WillPace};
-ghost use Rattle.flash_log.specs.SlotsInTurn.{BeginsBy, GivesUp, TakesInTurn, MeetsMoreOrPassesFewer, WillTake};
+ghost use Rattle.flash_log.specs.SlotsInTurn.{BeginsBy, GivesUp, HasOthersOlder, MeetsMoreOrPassesFewer, TakesInTurn};
+ghost use Rattle.flash_log.specs.SlotsInTurn.{TriesOn, WillTake, passed_slots};
 ghost use Rattle.flash_moves.specs.declared.ahead.TheConstants.{TRIES};
 
 use crate::kept::{find_again, goes_on, has_slot};
@@ -169,7 +170,7 @@ fn write_once<F: Flash>(
         → WillTake F.SLOTS (log_value F.PAGES F.SLOTS F.SECTORS (F.state flash.old) place.old) n
         → (F.state flash.new).faults ≤ (F.state flash.old).faults + 1 }
     // Behind a record that failed, all but the table is known still. In pace as many slots are left beside those of the
-    // steps as before, up to seven: the record took that of its step.
+    // steps as before: the record took that of its step. Or more than those of all tries are left.
     ensures holds { IsErrOf result DeviceErr.Fault → kept.new ≡ true
         → KeepsPlace F.PAGES F.SLOTS F.SECTORS F.sector_start (F.state flash.new).words page place.new }
     ensures keeps { IsErrOf result DeviceErr.Fault → (extra : ℕ)
@@ -177,11 +178,12 @@ fn write_once<F: Flash>(
         → WillKeepPace F.PAGES F.SLOTS F.SECTORS F.sector_start (F.state flash.old).words extra place.old
         → WillPace kept.new F.PAGES F.SLOTS F.SECTORS F.sector_start (F.state flash.new).words
         (extra + lost_since (F.state flash.old) (F.state flash.new)) place.new }
-    ensures beside { IsErrOf result DeviceErr.Fault → kept.new ≡ true → (extra k : ℕ) → k < TRIES
+    ensures beside { IsErrOf result DeviceErr.Fault → kept.new ≡ true → (extra : ℕ)
         → IsRoomy F.PAGES F.SLOTS F.SECTORS (extra + failed_since (F.state flash.old) (F.state flash.new))
         → KeepsPace F.PAGES F.SLOTS F.SECTORS extra place.old
-        → steps_left_of F.PAGES F.SECTORS place.old + place.old.next + k ≤ F.SLOTS
-        → steps_left_of F.PAGES F.SECTORS place.new + place.new.tried + k ≤ F.SLOTS }
+        → ((steps_left_of F.PAGES F.SECTORS place.new + 1 ≡ steps_left_of F.PAGES F.SECTORS place.old)
+        × (place.new.tried ≡ place.old.next + 1))
+        ⊎ (steps_left_of F.PAGES F.SECTORS place.new + place.new.tried + TRIES ≤ F.SLOTS) }
     // Without a try of the record no slot is passed over.
     ensures untried { IsErrOf result DeviceErr.Fault → kept.new ≡ false → (extra n : ℕ)
         → IsRoomy F.PAGES F.SLOTS F.SECTORS (extra + failed_since (F.state flash.old) (F.state flash.new))
@@ -275,6 +277,17 @@ fn write_again<F: Flash>(
         ≡ steps_left_of F.PAGES F.SECTORS place.old + place.old.tried + 1))
         ⊎ ((n : ℕ) → BeginsBy F.SLOTS (log_value F.PAGES F.SLOTS F.SECTORS (F.state flash.old) place.old) n
         → BeginsBy F.SLOTS (log_value F.PAGES F.SLOTS F.SECTORS (F.state flash.new) place.new) n) }
+    // The move that is known stays so while it leaves a slot: a try takes at most the next one. None is taken back.
+    ensures known { IsErrOf result DeviceErr.Fault → place.new.ready ≡ false → kept.old ≡ true
+        → steps_left_of F.PAGES F.SECTORS place.old + place.old.tried < F.SLOTS
+        → (kept.new ≡ true) × ((steps_left_of F.PAGES F.SECTORS place.new ≡ steps_left_of F.PAGES F.SECTORS place.old)
+        × (place.new.tried ≤ place.old.tried + 1)) }
+    ensures tried { IsErrOf result DeviceErr.Fault → place.new.ready ≡ false → place.old.tried ≤ place.new.tried }
+    ensures passed { IsErrOf result DeviceErr.Fault → place.new.ready ≡ true → place.old.tried ≤ place.new.next }
+    // It gives up where the move that is found has no slot for it.
+    ensures no_slot { IsErrOf result DeviceErr.Fault → place.new.ready ≡ true
+        → (F.SLOTS ≤ steps_left_of F.PAGES F.SECTORS place.new + place.new.next)
+        ⊎ HasOthersOlder F.PAGES F.SLOTS F.SECTORS F.sector_start (F.state flash.new).words page place.new.next }
     // By what is known, it gives up only where that leaves no slot. Else it has tried none.
     ensures full { IsErrOf result DeviceErr.Fault → place.new.ready ≡ true → kept.old ≡ true
         → F.SLOTS ≤ steps_left_of F.PAGES F.SECTORS place.old + place.old.tried }
@@ -366,6 +379,19 @@ fn try_again<F: Flash>(
         → ((F.state flash.old).faults < (F.state flash.new).faults)
         × MeetsMoreOrPassesFewer F.SLOTS k (log_value F.PAGES F.SLOTS F.SECTORS (F.state flash.old) place.old)
         (log_value F.PAGES F.SLOTS F.SECTORS (F.state flash.new) place.new) }
+    // By what is known it gives up behind the last try, or it passed over all slots but those of the steps: each for a
+    // Fault.
+    ensures passes_on { IsErrOf result DeviceErr.Fault → kept.old ≡ true
+        → ((F.state flash.old).faults + TRIES ≤ (F.state flash.new).faults + 1)
+        ⊎ ((F.SLOTS ≤ steps_left_of F.PAGES F.SECTORS place.old
+        + passed_slots F.SLOTS (log_value F.PAGES F.SLOTS F.SECTORS (F.state flash.new) place.new))
+        × (F.SLOTS ≤ steps_left_of F.PAGES F.SECTORS place.old + place.old.tried
+        + ((F.state flash.new).faults - (F.state flash.old).faults))) }
+    // Whatever is known, it gives up behind the last try, or where the move that is found has no slot for it.
+    ensures no_slot { IsErrOf result DeviceErr.Fault
+        → ((F.state flash.old).faults + TRIES ≤ (F.state flash.new).faults + 1) ⊎ ((place.new.ready ≡ true)
+        × ((F.SLOTS ≤ steps_left_of F.PAGES F.SECTORS place.new + place.new.next)
+        ⊎ HasOthersOlder F.PAGES F.SLOTS F.SECTORS F.sector_start (F.state flash.new).words page place.new.next)) }
     ensures work { Costs 2 2 (F.state flash.old) (F.state flash.new) }
     ensures erases { (F.state flash.new).erases ≡ (F.state flash.old).erases }
     ensures slots { (n : ℕ) → n + lead_of F.PAGES F.SECTORS ≤ F.SLOTS
@@ -436,14 +462,15 @@ pub fn write_at<F: Flash>(
         ⊎ GivesUp F.PAGES F.SLOTS F.SECTORS F.sector_start page
         (log_value F.PAGES F.SLOTS F.SECTORS (F.state flash.new) place.new) }
     // In pace, with so many slots beside those of the steps, fewer than eight, it gives up only behind more Faults than
-    // these, or where it passed over fewer slots than it met Faults: one of them was no failed slot. Or the pages
-    // moved.
+    // these, or where it passed over fewer slots than it met Faults: one of them was no failed slot. Each try met a
+    // Fault, or it passed over more slots than these, or its step isn't taken. Or the pages moved.
     ensures keeps_on { IsErrOf result DeviceErr.Fault → (extra k : ℕ) → k < TRIES
         → IsRoomy F.PAGES F.SLOTS F.SECTORS (extra + failed_since (F.state flash.old) (F.state flash.new))
         → KeepsPace F.PAGES F.SLOTS F.SECTORS extra place.old
         → steps_left_of F.PAGES F.SECTORS place.old + place.old.next + k ≤ F.SLOTS
         → StaysInArea F.SLOTS (F.state flash.old).words (F.state flash.new).words
-        → MeetsMoreOrPassesFewer F.SLOTS k (log_value F.PAGES F.SLOTS F.SECTORS (F.state flash.old) place.old)
+        → TriesOn F.PAGES F.SLOTS F.SECTORS F.sector_start page k
+        (log_value F.PAGES F.SLOTS F.SECTORS (F.state flash.old) place.old)
         (log_value F.PAGES F.SLOTS F.SECTORS (F.state flash.new) place.new) }
     ensures work { Costs (2 * F.PAGES + 40 + F.SECTORS) 2 (F.state flash.old) (F.state flash.new) }
     ensures pause { (extra : ℕ)

@@ -8,7 +8,7 @@ use Rattle.flash_device.specs.PageTables.{AreFree}
 use Rattle.flash_area.specs.Spares.{FindsFurthest, steps_from}
 use Rattle.flash_moves.specs.Paces.{OwnsOlder, extra_of, move_steps_of, steps_left}
 use Rattle.flash_moves.specs.Places.{log_value}
-use Rattle.flash_log.specs.SlotsInTurn.{GivesUp, IsNextSlot}
+use Rattle.flash_log.specs.SlotsInTurn.{GivesUp, HasOthersOlder, IsNextSlot}
 use Rattle.flash_log.specs.laws.TakingTurns.{next_behind, passed_of}
 
 module _ {T : Type 0} (pages slots sectors : ℕ) where
@@ -23,6 +23,36 @@ module _ {T : Type 0} (pages slots sectors : ℕ) where
       own)
       found
 
+  -- the move that is found is that of the flash's own turn
+  found_here : (start : ℕ → ℕ) (s : FlashState) (p q : PageMap T) → q ≡ p → q.turn ≡ turn_of slots s.words
+      → FindsFurthest pages slots sectors start s.words p.turn p.next (extra_of pages slots sectors) p.erased p.copied
+      p.older
+      → FindsFurthest pages slots sectors start s.words (turn_of slots s.words) q.next (extra_of pages slots sectors)
+      q.erased q.copied q.older
+  found_here start s p q same turn finds =
+      let extra = extra_of pages slots sectors in
+      subst (λ (t : ℕ). FindsFurthest pages slots sectors start s.words t q.next extra q.erased q.copied q.older) turn
+      (subst (λ (z : PageMap T). FindsFurthest pages slots sectors start s.words z.turn z.next extra z.erased z.copied
+      z.older) (sym same) finds)
+
+  -- The copy of another page is older in the move that is found, so it is in each that goes on.
+  pub others_older_found : (start : ℕ → ℕ) (s : FlashState) (p q : PageMap T) (page : ℕ) → q ≡ p
+      → q.turn ≡ turn_of slots s.words
+      → FindsFurthest pages slots sectors start s.words p.turn p.next (extra_of pages slots sectors) p.erased p.copied
+      p.older
+      → ¬ OwnsOlder page q → slots ≤ p.next + move_steps_of pages sectors
+      → HasOthersOlder pages slots sectors start s.words page q.next
+  others_older_found start s p q page same turn finds other near =
+      let here = found_here start s p q same turn finds in
+      record {
+        on = λ e c b o on. ⊎_elim
+            (λ (none : q.older ≡ 0). absurd (other (inl none)))
+            (λ (is : q.older ≡ o). ((λ none. other (inl (is ∙ none))), (λ own. other (inr (is ∙ own)))))
+            (here.on e c b o on).1;
+        anew = λ e anew. other (inl (here.anew e anew).1);
+        whole = let next = ap (λ (z : PageMap T). z.next) same in omega (arith, near, next);
+      }
+
   -- The move that is found has no slot, so none has that goes on.
   pub gives_up_found : (start : ℕ → ℕ) (s : FlashState) (p q : PageMap T) (page : ℕ) → q ≡ p → q.ready ≡ true
       → q.turn ≡ turn_of slots s.words → AreFree s.words (base_in slots (turn_of slots s.words)) q.next slots
@@ -31,14 +61,7 @@ module _ {T : Type 0} (pages slots sectors : ℕ) where
       → (OwnsOlder page q → slots ≤ steps_left pages sectors q + q.next) → slots ≤ p.next + move_steps_of pages sectors
       → GivesUp pages slots sectors start page (log_value pages slots sectors s q)
   gives_up_found start s p q page same ready turn free finds full near =
-      let extra = extra_of pages slots sectors in
-      let there : FindsFurthest pages slots sectors start s.words q.turn q.next extra q.erased q.copied q.older =
-      subst (λ (z : PageMap T). FindsFurthest pages slots sectors start s.words z.turn z.next extra z.erased z.copied
-      z.older) (sym same) finds in
-      let here : FindsFurthest pages slots sectors start s.words (turn_of slots s.words) q.next extra q.erased q.copied
-      q.older =
-      subst (λ (t : ℕ). FindsFurthest pages slots sectors start s.words t q.next extra q.erased q.copied q.older) turn
-      there in
+      let here = found_here start s p q same turn finds in
       let steps : steps_left pages sectors q ≡ steps_from pages sectors (turn_of slots s.words) q.erased q.copied =
       ap (λ (t : ℕ). steps_from pages sectors t q.erased q.copied) turn in
       record {

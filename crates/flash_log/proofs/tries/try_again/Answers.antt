@@ -12,7 +12,7 @@ use Rattle.flash_log.specs.laws.Keeping.{will_stands}
 use Rattle.flash_moves.specs.laws.Lighting.{tries_faults}
 use Rattle.flash_log.specs.laws.Retrying.{tries_behind}
 use Rattle.flash_log.specs.laws.Beginning.{begins_later}
-use Rattle.flash_log.specs.laws.TakingTurns.{takes_more, takes_none, takes_then}
+use Rattle.flash_log.specs.laws.TakingTurns.{passed_of, takes_more, takes_none, takes_then}
 use Rattle.flash_moves.specs.laws.Writing.{done_again, whole_again}
 use Rattle.flash_log.proofs.tries.try_again.Goals as goal
 
@@ -26,6 +26,7 @@ loop-init g c = record {
   stood = λ extra fits stands. stands;
   holds = c.requires.keeps;
   keeps_on = λ kept extra k fits will room. inr (kept, omega (arith, room));
+  stays = λ kept. inl (kept, (refl, omega arith));
   turns = λ n far takes. takes_more g.F.Flash.SLOTS n 0 _ _ _ (omega arith) (takes_none g.F.Flash.SLOTS n _ takes);
   met = omega arith;
   unready = c.requires.unready;
@@ -114,6 +115,28 @@ loop-preserved g c =
           inl (omega (arith, less, rise), inl (omega (arith, full, left, counted, rise))))
           (cases_lt (steps_left pages sectors c.loop.place + c.loop.place.tried) slots))
           (was.keeps_on kept extra k few will room);
+      stays = λ kept.
+          let later = c.in-Err-Fault.ensures.tried is c.if-place.false in
+          let left = steps_left pages sectors c.args.place.now in
+          ⊎_elim
+          (λ (known : (c.loop.kept ≡ true) × ((steps_left pages sectors c.loop.place ≡ left)
+          × (c.loop.place.tried ≤ c.args.place.now.tried + (c.loop.counter - 1)))).
+          let same = known.1.0 in
+          let few = known.1.1 in
+          ⊎_elim
+          (λ (some : steps_left pages sectors c.loop.place + c.loop.place.tried < slots).
+          let on = c.in-Err-Fault.ensures.known is c.if-place.false known.0 some in
+          let one = on.1.1 in
+          inl (on.0, (on.1.0 ∙ same, omega (arith, few, one, less, met))))
+          (λ (full : slots ≤ steps_left pages sectors c.loop.place + c.loop.place.tried).
+          inr (omega (arith, full, same, later), omega (arith, full, same, few)))
+          (cases_lt (steps_left pages sectors c.loop.place + c.loop.place.tried) slots))
+          (λ (full : (slots ≤ left + c.loop.place.tried)
+          × (slots ≤ left + c.args.place.now.tried + (c.loop.counter - 1))).
+          let passed = full.0 in
+          let few = full.1 in
+          inr (omega (arith, passed, later), omega (arith, few)))
+          (was.stays kept);
       turns = λ n far takes.
           let first = was.turns n far takes in
           let few = first.few in
@@ -498,6 +521,51 @@ returns-then-place-clause-keeps_on g c = λ failed kept extra k few fits will ro
     let left = known.1 in
     (omega (arith, full, left, counted, more), inl (omega (arith, full, left, counted, more))))
     (c.loop.invariant.keeps_on kept extra k fits will room)
+
+-- It gave up where what is known leaves no slot.
+pub returns-then-place-clause-passes_on : goal.returns-then-place-clause-passes_on
+returns-then-place-clause-passes_on g c = λ failed kept.
+    let slots = g.F.Flash.SLOTS in
+    let pages = g.F.Flash.PAGES in
+    let sectors = g.F.Flash.SECTORS in
+    let now = g.F.Flash.state c.loop.flash in
+    let new = g.F.Flash.state c.write_again.new.flash in
+    let left = steps_left pages sectors c.args.place.now in
+    let counted = c.loop.invariant.met in
+    let more = tries_faults 0 now new c.write_again.result c.write_again.ensures.light in
+    let is = ap Err c.in-Err-Fault.field-0-is in
+    let later = c.in-Err-Fault.ensures.passed is c.if-place.true in
+    let passed = passed_of pages slots sectors new c.write_again.new.place c.if-place.true
+    (c.write_again.ensures.log.known c.if-place.true).free.within in
+    inr (⊎_elim
+    (λ (known : (c.loop.kept ≡ true) × ((steps_left pages sectors c.loop.place ≡ left)
+    × (c.loop.place.tried ≤ c.args.place.now.tried + (c.loop.counter - 1)))).
+    let full = c.in-Err-Fault.ensures.full is c.if-place.true known.0 in
+    let same = known.1.0 in
+    let few = known.1.1 in
+    (omega (arith, full, same, later, passed), omega (arith, full, same, few, counted, more)))
+    (λ (full : (slots ≤ left + c.loop.place.tried)
+    × (slots ≤ left + c.args.place.now.tried + (c.loop.counter - 1))).
+    let all = full.0 in
+    let few = full.1 in
+    (omega (arith, all, later, passed), omega (arith, few, counted, more)))
+    (c.loop.invariant.stays kept))
+
+pub returns-then-place-clause-no_slot : goal.returns-then-place-clause-no_slot
+returns-then-place-clause-no_slot g c = λ failed.
+    inr (c.if-place.true, c.in-Err-Fault.ensures.no_slot (ap Err c.in-Err-Fault.field-0-is) c.if-place.true)
+
+pub returns-clause-passes_on : goal.returns-clause-passes_on
+returns-clause-passes_on g c = λ failed kept.
+    let counted = c.loop.invariant.met in
+    let test = c.loop-test.false in
+    inl (omega (arith, counted, test))
+
+pub returns-clause-no_slot : goal.returns-clause-no_slot
+returns-clause-no_slot g c = λ failed.
+    let counted = c.loop.invariant.met in
+    let test = c.loop-test.false in
+    inl (omega (arith, counted, test))
 
 pub returns-clause-keeps_on : goal.returns-clause-keeps_on
 returns-clause-keeps_on g c = λ failed kept extra k few fits will room.

@@ -32,6 +32,11 @@ invariant-loop g l =
           (log_value pages slots sectors old l.initial.place) (log_value pages slots sectors new l.place))
           ⊎ ((l.kept ≡ true)
           × (steps_left pages sectors l.place + l.place.tried + k < slots + (l.counter - 1)));
+      stays : l.initial.kept ≡ true → ((l.kept ≡ true)
+          × ((steps_left pages sectors l.place ≡ steps_left pages sectors l.initial.place)
+          × (l.place.tried ≤ l.initial.place.tried + (l.counter - 1))))
+          ⊎ ((slots ≤ steps_left pages sectors l.initial.place + l.place.tried)
+          × (slots ≤ steps_left pages sectors l.initial.place + l.initial.place.tried + (l.counter - 1)));
       turns : (n : ℕ) → n + lead_of pages sectors ≤ slots
           → WillTake slots (log_value pages slots sectors old l.initial.place) n
           → TakesInTurn slots n (l.counter - 1) (log_value pages slots sectors old l.initial.place)

@@ -1,9 +1,9 @@
-use Rattle.std.proofs.Common.{◌≡◌, ◌⊎◌, ◌<◌, ◌≤◌, ◌+◌, ◌-◌, ◌*◌, ℕ, List, refl, ap, sym, subst, inl, inr}
+use Rattle.std.proofs.Common.{◌≡◌, ◌≢◌, ◌⊎◌, ◌<◌, ◌≤◌, ◌+◌, ◌-◌, ◌*◌, ℕ, List, refl, ap, sym, subst, inl, inr}
 use Rattle.std.proofs.Common.{⊎_elim, ◌∙◌, arith}
 use Rattle.std.specs.Prelude.{IsErrOf}
 use Rattle.nvm_board.specs.declared.board.DeviceErr.TheVariants.{Fault}
 use Rattle.std.proofs.Common.{rules, true≢false}
-use Rattle.std.proofs.lemmas.Bool.{cases_lt}
+use Rattle.std.proofs.lemmas.Bool.{cases_eq, cases_lt}
 use Rattle.std.proofs.lemmas.Result.{on_ok_weaker}
 use Rattle.nvm_board.specs.History.{written}
 use Rattle.flash_device.specs.FlashCalls.{Tries}
@@ -15,9 +15,9 @@ use Rattle.flash_moves.specs.declared.place.PageMap.{PageMap}
 use Rattle.flash_moves.specs.Places.{IsPlaceOf, log_value}
 use Rattle.flash_area.specs.Spares.{FindsFurthest}
 use Rattle.flash_log.specs.KeptParts.{WillPace}
-use Rattle.flash_log.specs.SlotsInTurn.{BeginsBy, GivesUp, TakesInTurn, WillTake}
+use Rattle.flash_log.specs.SlotsInTurn.{BeginsBy, GivesUp, HasOthersOlder, TakesInTurn, WillTake}
 use Rattle.flash_log.specs.laws.Beginning.{begins_at, begins_behind, begins_later, begins_lost, begins_tried}
-use Rattle.flash_log.specs.laws.GivingUp.{gives_up_found}
+use Rattle.flash_log.specs.laws.GivingUp.{gives_up_found, others_older_found}
 use Rattle.flash_moves.specs.laws.Lighting.{lights_faults, lights_once}
 use Rattle.flash_moves.specs.laws.Pacing.{steps_most, tried_within}
 use Rattle.flash_log.specs.laws.Keeping.{will_stands}
@@ -317,6 +317,46 @@ found_full g c = λ full.
     q.erased q.copied q.older) (sym c.find_again.ensures.words) (finds (omega (arith, near)))) full near)
     c.in_ok-find_again.ensures.furthest)
     (cases_lt (q.next + move_steps_of pages sectors) slots)
+
+-- The copy of another page is older, by what was found.
+found_others : (g : Over) (c : After-keep_own g) → ¬ OwnsOlder c.args.page c.keep_own.new.place
+    → HasOthersOlder g.F.Flash.PAGES g.F.Flash.SLOTS g.F.Flash.SECTORS g.F.Flash.sector_start
+    (g.F.Flash.state c.find_again.new.flash).words c.args.page c.keep_own.new.place.next
+found_others g c = λ other.
+    let slots = g.F.Flash.SLOTS in
+    let pages = g.F.Flash.PAGES in
+    let sectors = g.F.Flash.SECTORS in
+    let start = g.F.Flash.sector_start in
+    let mid = g.F.Flash.state c.find_again.new.flash in
+    let q = c.find_again.new.place in
+    let r = c.keep_own.new.place in
+    ⊎_elim
+    (λ (far : q.next + move_steps_of pages sectors < slots). absurd (other (c.keep_own.ensures.own far)))
+    (λ (near : slots ≤ q.next + move_steps_of pages sectors).
+    let same = c.keep_own.ensures.full near in
+    ⊎_elim
+    (λ (has : OwnsOlder c.args.page q × (steps_left pages sectors q + q.next < slots)).
+    absurd (other (subst (λ (z : PageMap g.row.F-Table.Denot). OwnsOlder c.args.page z) (sym same) has.0)))
+    (λ (finds : slots ≤ q.next + lead_of pages sectors → FindsFurthest pages slots sectors start
+    (g.F.Flash.state c.args.flash.now).words q.turn q.next (extra_of pages slots sectors) q.erased q.copied q.older).
+    others_older_found pages slots sectors start mid q r c.args.page same (own_place g c).turn
+    (subst (λ (l : List ℕ). FindsFurthest pages slots sectors start l q.turn q.next (extra_of pages slots sectors)
+    q.erased q.copied q.older) (sym c.find_again.ensures.words) (finds (omega (arith, near)))) other near)
+    c.in_ok-find_again.ensures.furthest)
+    (cases_lt (q.next + move_steps_of pages sectors) slots)
+
+pub returns-then-not-has_slot-clause-no_slot : goal.returns-then-not-has_slot-clause-no_slot
+returns-then-not-has_slot-clause-no_slot g c = λ failed ready.
+    let older = c.keep_own.new.place.older in
+    let full = c.has_slot.ensures.no c.if-not-has_slot.true in
+    ⊎_elim
+    (λ (none : older ≡ 0). inl (full (inl none)))
+    (λ (some : older ≢ 0). ⊎_elim
+    (λ (own : older ≡ c.args.page + 1). inl (full (inr own)))
+    (λ (other : older ≢ c.args.page + 1).
+    inr (found_others g (goal.at.returns-then-not-has_slot-clause-no_slot g c).After-keep_own (⊎_elim some other)))
+    (cases_eq older (c.args.page + 1)))
+    (cases_eq older 0)
 
 pub returns-in_err-find_again-clause-gives_up : goal.returns-in_err-find_again-clause-gives_up
 returns-in_err-find_again-clause-gives_up g c = λ failed ready.

@@ -1,22 +1,24 @@
-use Rattle.std.proofs.Common.{◌≡◌, ◌<◌, ◌≤◌, ◌+◌, ◌-◌, ◌*◌, ℕ, length, Err, ap, inl, inr, ⊎_elim, arith, true≢false}
-use Rattle.std.proofs.Common.{false, true, sym, ◌∙◌}
+use Rattle.std.proofs.Common.{◌≡◌, ◌⊎◌, ◌<◌, ◌≤◌, ◌+◌, ◌-◌, ◌*◌, ℕ, length, Err, ap, inl, inr, ⊎_elim, arith}
+use Rattle.std.proofs.Common.{IsErrOf, false, true, subst, sym, true≢false, ◌∙◌}
+use Rattle.nvm_board.specs.declared.board.DeviceErr.TheVariants.{Fault}
 use Rattle.std.proofs.lemmas.Bool.{cases_Bool, cases_lt}
 use Rattle.std.proofs.lemmas.Result.{on_ok_weaker}
 use Rattle.flash_device.specs.FlashCalls.{KeepsPower}
 use Rattle.flash_device.specs.FlashLogs.{base_in, words_of}
 use Rattle.flash_area.specs.laws.Words.{length-words}
-use Rattle.flash_moves.specs.Paces.{IsRoomy, StaysInArea, WillKeepPace, failed_since, lost_since}
+use Rattle.flash_moves.specs.Paces.{IsRoomy, KeepsPace, StaysInArea, WillKeepPace, failed_since, lost_since}
+use Rattle.flash_moves.specs.Paces.{steps_left}
 use Rattle.flash_moves.specs.Places.{log_value}
 use Rattle.flash_moves.specs.declared.ahead.TheConstants.{TRIES}
 use Rattle.flash_log.specs.KeptParts.{WillPace}
 use Rattle.flash_log.specs.laws.Ending.{will_more}
 use Rattle.flash_log.specs.laws.Keeping.{will_pace_more}
 use Rattle.flash_moves.specs.laws.Lighting.{tries_faults}
-use Rattle.flash_moves.specs.laws.Pacing.{found_so}
-use Rattle.flash_log.specs.SlotsInTurn.{BeginsBy, GivesUp}
+use Rattle.flash_moves.specs.laws.Pacing.{found_so, left_of}
+use Rattle.flash_log.specs.SlotsInTurn.{BeginsBy, GivesUp, HasOthersOlder, PassesFewer, passed_slots}
 use Rattle.flash_log.specs.laws.Retrying.{holds_ok, ok_holds, tries_behind}
 use Rattle.flash_log.specs.laws.Beginning.{begins_later}
-use Rattle.flash_log.specs.laws.TakingTurns.{takes_more, takes_then}
+use Rattle.flash_log.specs.laws.TakingTurns.{passed_of, takes_more, takes_then}
 use Rattle.flash_moves.specs.laws.Writing.{done_again, whole_again}
 use Rattle.flash_log.proofs.tries.write_at.Given.{Over}
 use Rattle.flash_log.proofs.tries.write_at.Goals.{After-try_again}
@@ -366,41 +368,151 @@ returns-clause-steps g c =
     let met = met_fault g (goal.at.returns-clause-steps g c).After-try_again in
     ok_holds c.try_again.result (λ ok extra roomy same. absurd (omega (arith, met, same)))
 
-pub returns-clause-keeps_on : goal.returns-clause-keeps_on
-returns-clause-keeps_on g c = λ failed extra k few roomy pace room stays.
+-- Where the record wasn't tried at first, one Fault took no slot.
+untried_fewer : (g : Over) (c : After-try_again g) (extra : ℕ) → IsErrOf c.try_again.result Fault
+    → IsRoomy g.F.Flash.PAGES g.F.Flash.SLOTS g.F.Flash.SECTORS
+    (extra + failed_since (g.F.Flash.state c.args.flash.now) (g.F.Flash.state c.try_again.new.flash))
+    → WillKeepPace g.F.Flash.PAGES g.F.Flash.SLOTS g.F.Flash.SECTORS g.F.Flash.sector_start
+    (g.F.Flash.state c.args.flash.now).words extra c.args.place.now
+    → StaysInArea g.F.Flash.SLOTS (g.F.Flash.state c.args.flash.now).words
+    (g.F.Flash.state c.try_again.new.flash).words
+    → c.write_once.new.kept ≡ false
+    → PassesFewer g.F.Flash.SLOTS (log_value g.F.Flash.PAGES g.F.Flash.SLOTS g.F.Flash.SECTORS
+    (g.F.Flash.state c.args.flash.now) c.args.place.now) (log_value g.F.Flash.PAGES g.F.Flash.SLOTS
+    g.F.Flash.SECTORS (g.F.Flash.state c.try_again.new.flash) c.try_again.new.place)
+untried_fewer g c = λ extra failed roomy stands stays untried n begins.
     let slots = g.F.Flash.SLOTS in
     let pages = g.F.Flash.PAGES in
     let sectors = g.F.Flash.SECTORS in
     let old = g.F.Flash.state c.args.flash.now in
     let mid = g.F.Flash.state c.write_once.new.flash in
     let new = g.F.Flash.state c.try_again.new.flash in
+    let met = (first_failed g c).1 in
+    let more = tries_faults 0 mid new c.try_again.result c.try_again.ensures.light in
+    let less : IsRoomy pages slots sectors (extra + failed_since old mid) = omega (arith, roomy, more) in
+    begins_later slots (log_value pages slots sectors new c.try_again.new.place) (n + (new.faults - mid.faults))
+    (n + (new.faults - old.faults - 1)) (omega (arith, met, more))
+    (c.try_again.ensures.passes failed (extra + failed_since old mid) n (omega (arith, less))
+    (first_paces g c extra roomy stands)
+    (c.in-Err-Fault.ensures.untried (ap Err c.in-Err-Fault.field-0-is) untried extra n less stands
+    (sym (ap (base_in slots) c.try_again.ensures.turn) ∙ stays) begins))
+
+-- The record was tried: each try met a Fault, or it passed over more slots than were left beside those of the steps.
+kept_passes : (g : Over) (c : After-try_again g) (extra k : ℕ) → IsErrOf c.try_again.result Fault
+    → IsRoomy g.F.Flash.PAGES g.F.Flash.SLOTS g.F.Flash.SECTORS
+    (extra + failed_since (g.F.Flash.state c.args.flash.now) (g.F.Flash.state c.try_again.new.flash))
+    → KeepsPace g.F.Flash.PAGES g.F.Flash.SLOTS g.F.Flash.SECTORS extra c.args.place.now
+    → steps_left g.F.Flash.PAGES g.F.Flash.SECTORS c.args.place.now + c.args.place.now.next + k ≤ g.F.Flash.SLOTS
+    → c.write_once.new.kept ≡ true
+    → ((g.F.Flash.state c.args.flash.now).faults + TRIES ≤ (g.F.Flash.state c.try_again.new.flash).faults)
+    ⊎ (c.args.place.now.next + k < passed_slots g.F.Flash.SLOTS (log_value g.F.Flash.PAGES g.F.Flash.SLOTS
+    g.F.Flash.SECTORS (g.F.Flash.state c.try_again.new.flash) c.try_again.new.place))
+kept_passes g c = λ extra k failed roomy pace room kept.
+    let slots = g.F.Flash.SLOTS in
+    let pages = g.F.Flash.PAGES in
+    let sectors = g.F.Flash.SECTORS in
+    let old = g.F.Flash.state c.args.flash.now in
+    let mid = g.F.Flash.state c.write_once.new.flash in
+    let new = g.F.Flash.state c.try_again.new.flash in
+    let p = c.args.place.now in
+    let q = c.write_once.new.place in
     let last = log_value pages slots sectors new c.try_again.new.place in
+    let met = (first_failed g c).1 in
+    let more = tries_faults 0 mid new c.try_again.result c.try_again.ensures.light in
+    ⊎_elim
+    (λ (many : mid.faults + TRIES ≤ new.faults + 1). inl (omega (arith, many, met)))
+    (λ (full : (slots ≤ steps_left pages sectors q + passed_slots slots last)
+    × (slots ≤ steps_left pages sectors q + q.tried + (new.faults - mid.faults))).
+    let all = full.0 in
+    let each = full.1 in
+    ⊎_elim
+    (λ (one : (steps_left pages sectors q + 1 ≡ steps_left pages sectors p) × (q.tried ≡ p.next + 1)).
+    let fewer = one.0 in
+    inr (omega (arith, all, fewer, room)))
+    (λ (far : steps_left pages sectors q + q.tried + TRIES ≤ slots). inl (omega (arith, each, far, met, more)))
+    (c.in-Err-Fault.ensures.beside (ap Err c.in-Err-Fault.field-0-is) kept extra (omega (arith, roomy, more)) pace))
+    (c.try_again.ensures.passes_on failed kept)
+
+pub returns-clause-keeps_on : goal.returns-clause-keeps_on
+returns-clause-keeps_on g c = λ failed extra k few roomy pace room stays.
+    let slots = g.F.Flash.SLOTS in
+    let pages = g.F.Flash.PAGES in
+    let sectors = g.F.Flash.SECTORS in
+    let start = g.F.Flash.sector_start in
+    let old = g.F.Flash.state c.args.flash.now in
+    let mid = g.F.Flash.state c.write_once.new.flash in
+    let new = g.F.Flash.state c.try_again.new.flash in
+    let p = c.args.place.now in
+    let q = c.write_once.new.place in
+    let r = c.try_again.new.place in
+    let first = log_value pages slots sectors old p in
+    let last = log_value pages slots sectors new r in
     let run = (goal.at.returns-clause-keeps_on g c).After-try_again in
     let met = (first_failed g run).1 in
     let more = tries_faults 0 mid new c.try_again.result c.try_again.ensures.light in
-    let is = ap Err c.in-Err-Fault.field-0-is in
     let less : IsRoomy pages slots sectors (extra + failed_since old mid) = omega (arith, roomy, more) in
     let will = first_paces g run extra roomy (inl pace) in
-    ⊎_elim
-    (λ (some : 0 < k). ⊎_elim
-    (λ (kept : c.write_once.new.kept ≡ true).
-    let left = c.in-Err-Fault.ensures.beside is kept extra k few less pace room in
-    let on = c.try_again.ensures.keeps_on failed kept (extra + failed_since old mid) (k - 1) (omega (arith, few, some))
-    (omega (arith, less)) will (omega (arith, left, some)) in
-    let again = on.0 in
-    ⊎_elim
-    (λ (many : mid.faults + (k - 1) < new.faults). inl (omega (arith, met, many, some)))
-    (λ (fewer : (n : ℕ) → BeginsBy slots (log_value pages slots sectors mid c.write_once.new.place) n
-    → BeginsBy slots last (n + (new.faults - mid.faults - 1))).
-    inr (λ n begins. begins_later slots last (n + 1 + (new.faults - mid.faults - 1)) (n + (new.faults - old.faults - 1))
-    (omega (arith, met, again)) (fewer (n + 1) (first_begins g run extra n roomy (inl pace) stays begins))))
-    on.1)
-    (λ (untried : c.write_once.new.kept ≡ false).
-    inr (λ n begins. begins_later slots last (n + (new.faults - mid.faults)) (n + (new.faults - old.faults - 1))
-    (omega (arith, met, more))
-    (c.try_again.ensures.passes failed (extra + failed_since old mid) n (omega (arith, less)) will
-    (c.in-Err-Fault.ensures.untried is untried extra n less (inl pace)
-    (sym (ap (base_in slots) c.try_again.ensures.turn) ∙ stays) begins))))
-    (cases_Bool c.write_once.new.kept))
-    (λ (none : k ≤ 0). inl (omega (arith, met, more, none)))
-    (cases_lt 0 k)
+    let within = pace.room in
+    let before = passed_of pages slots sectors old p pace.ready (omega (arith, within)) in
+    record {
+      meets = ⊎_elim
+          (λ (some : 0 < k). ⊎_elim
+          (λ (kept : c.write_once.new.kept ≡ true).
+          let left : steps_left pages sectors q + q.tried + k ≤ slots = ⊎_elim
+          (λ (one : (steps_left pages sectors q + 1 ≡ steps_left pages sectors p) × (q.tried ≡ p.next + 1)).
+          let fewer = one.0 in
+          let next = one.1 in
+          omega (arith, fewer, next, room))
+          (λ (far : steps_left pages sectors q + q.tried + TRIES ≤ slots). omega (arith, far, few))
+          (c.in-Err-Fault.ensures.beside (ap Err c.in-Err-Fault.field-0-is) kept extra less pace) in
+          let on = c.try_again.ensures.keeps_on failed kept (extra + failed_since old mid) (k - 1)
+          (omega (arith, few, some)) (omega (arith, less)) will (omega (arith, left, some)) in
+          let again = on.0 in
+          ⊎_elim
+          (λ (many : mid.faults + (k - 1) < new.faults). inl (omega (arith, met, many, some)))
+          (λ (fewer : PassesFewer slots (log_value pages slots sectors mid q) last).
+          inr (λ n begins. begins_later slots last (n + 1 + (new.faults - mid.faults - 1))
+          (n + (new.faults - old.faults - 1)) (omega (arith, met, again))
+          (fewer (n + 1) (first_begins g run extra n roomy (inl pace) stays begins))))
+          on.1)
+          (λ (untried : c.write_once.new.kept ≡ false).
+          inr (untried_fewer g run extra failed roomy (inl pace) stays untried))
+          (cases_Bool c.write_once.new.kept))
+          (λ (none : k ≤ 0). inl (omega (arith, met, more, none)))
+          (cases_lt 0 k);
+      passes = ⊎_elim
+          (λ (kept : c.write_once.new.kept ≡ true). ⊎_elim
+          (λ (many : old.faults + TRIES ≤ new.faults). inl many)
+          (λ (passed : p.next + k < passed_slots slots last). inr (inl (omega (arith, before, passed))))
+          (kept_passes g run extra k failed roomy pace room kept))
+          (λ (untried : c.write_once.new.kept ≡ false).
+          let fewer = untried_fewer g run extra failed roomy (inl pace) stays untried in
+          ⊎_elim
+          (λ (many : mid.faults + TRIES ≤ new.faults + 1). inl (omega (arith, many, met)))
+          (λ (found : (r.ready ≡ true) × ((slots ≤ steps_left pages sectors r + r.next)
+          ⊎ HasOthersOlder pages slots sectors start new.words c.args.page r.next)).
+          let after = passed_of pages slots sectors new r found.0
+          (c.try_again.ensures.log.known found.0).free.within in
+          inr (⊎_elim
+          (λ (full : slots ≤ steps_left pages sectors r + r.next). ⊎_elim
+          (λ (passed : p.next + k < r.next). inl (omega (arith, passed, before, after)))
+          (λ (near : r.next ≤ p.next + k).
+          let left = left_of pages slots sectors p pace.ready in
+          let found_left = left_of pages slots sectors r found.0 in
+          inr (record {
+            found = found.0;
+            left = inl (omega (arith, full, near, room, left, found_left));
+            fewer = fewer;
+          }))
+          (cases_lt (p.next + k) r.next))
+          (λ (others : HasOthersOlder pages slots sectors start new.words c.args.page r.next).
+          inr (record {
+            found = found.0;
+            left = inr (subst (λ (n : ℕ). HasOthersOlder pages slots sectors start new.words c.args.page n)
+                (sym after) others);
+            fewer = fewer;
+          }))
+          found.1))
+          (c.try_again.ensures.no_slot failed))
+          (cases_Bool c.write_once.new.kept);
+    }

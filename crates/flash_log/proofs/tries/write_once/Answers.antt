@@ -392,7 +392,7 @@ returns-clause-untried g c = λ failed kept extra n roomy pace.
     (extra + failed_since old mid) stepped) ∙ kept))
 
 pub returns-clause-beside : goal.returns-clause-beside
-returns-clause-beside g c = λ failed kept extra k below roomy pace room.
+returns-clause-beside g c = λ failed kept extra roomy pace.
     let slots = g.F.Flash.SLOTS in
     let pages = g.F.Flash.PAGES in
     let sectors = g.F.Flash.SECTORS in
@@ -407,8 +407,8 @@ returns-clause-beside g c = λ failed kept extra k below roomy pace room.
     (λ (one : (steps_left pages sectors q + 1 ≡ steps_left pages sectors p) × (q.next ≡ p.next)).
     let fewer = one.0 in
     let next = one.1 in
-    omega (arith, step, tried, fewer, next, room))
+    inl (omega (arith, step, fewer), omega (arith, tried, next)))
     (λ (far : q.next + lead_of pages sectors < slots).
     let most = steps_most pages slots sectors q in
-    omega (arith, step, tried, far, most, below))
+    inr (omega (arith, step, tried, far, most)))
     ((c.in_ok-prepare.ensures.ends extra (omega (arith, roomy, more)) pace).fewer)

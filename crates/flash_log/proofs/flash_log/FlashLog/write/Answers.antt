@@ -5,7 +5,7 @@ use Rattle.flash_moves.specs.Paces.{RegainsSlots, StandsInPace, StaysInArea, Tak
 use Rattle.flash_moves.specs.Paces.{extra_slots, failed_since, free_slots, is_paced, known_steps, lead_of, lost_since}
 use Rattle.flash_moves.specs.Places.{FindsFree, log_value, state_of}
 use Rattle.nvm_board.specs.declared.board.DeviceErr.TheVariants.{Fault}
-use Rattle.flash_log.specs.SlotsInTurn.{BeginsBy, GivesUp, MeetsMoreOrPassesFewer, TakesInTurn, WillTake}
+use Rattle.flash_log.specs.SlotsInTurn.{BeginsBy, GivesUp, TakesInTurn, TriesOn, WillTake}
 use Rattle.flash_moves.specs.laws.Pacing.{free_of, left_of, paced_is, pauses_view, stands_view, takes_view, view_stands}
 use Rattle.flash_moves.specs.declared.ahead.TheConstants.{TRIES}
 use Rattle.flash_log.specs.laws.Retrying.{holds_ok, ok_holds, tries_view}
@@ -219,7 +219,7 @@ returns-clause-keeps_on g c = λ failed extra k few.
     let last = log_value pages slots sectors new c.write_at.new.place in
     subst (λ (l : LogState). IsRoomy pages slots sectors (extra + failed_since l.flash (state_of pages slots new))
     → l.paced ≡ true → l.extra ≤ extra → l.left + k ≤ l.free → StaysInArea slots l.raw new.words
-    → MeetsMoreOrPassesFewer slots k l last) c.self.view_is
+    → TriesOn pages slots sectors g.F.Flash.sector_start c.args.page k l last) c.self.view_is
     (λ roomy paced fits room stays.
     let pace = paced_is pages slots sectors extra place paced fits in
     let free = free_of pages slots sectors place pace.ready in
