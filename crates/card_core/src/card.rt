@@ -1,9 +1,10 @@
 //! A powered card and its commands.
-ghost use Rattle.std.specs.Prelude.{◌≡◌, ◌⊎◌, ◌≤◌, ◌+◌, true, false, [], length, IsOk, IsErr, OnOk};
+ghost use Rattle.std.specs.Prelude.{◌≡◌, ◌≢◌, ◌⊎◌, ◌≤◌, ◌+◌, true, false, [], length, IsOk, IsErr, OnOk};
 ghost use Rattle.std.specs.Prelude.{OnErr, IfOk, IfErr, IsErrOf, Ok, Err, ℕ, List};
 ghost use Rattle.nvm_board.specs.Aims.{due_of};
 ghost use Rattle.nvm_board.specs.BoardCalls.{Arms};
 ghost use Rattle.undo_journal.specs.declared.error.StoreErr.TheVariants as StoreErr;
+ghost use Rattle.undo_journal.specs.Undo.{IsSound};
 ghost use Rattle.undo_journal.specs.Spending.{Advances, WritesAtMost, KeepsBoard};
 ghost use Rattle.ef_contents.specs.UpdateWrites.{update_writes};
 ghost use Rattle.card_model.specs.CommandTable.{asked};
@@ -11,7 +12,7 @@ ghost use Rattle.card_model.specs.Requests.{update_binary};
 ghost use Rattle.card_model.specs.declared.requests.Target.{Target};
 ghost use Rattle.command_base.specs.Comparing.{ComparesAsked};
 ghost use Rattle.card_model.specs.Cards.{card_space};
-ghost use Rattle.command_base.specs.Finding.{HasCard, FindsAgain};
+ghost use Rattle.command_base.specs.Finding.{HasCard, FindsAgain, words_found};
 ghost use Rattle.card_start.specs.Starting.{IsNewFound, KeepsFormat, KeepsFoundUnlessOld, KeepsUnlessOld};
 ghost use Rattle.card_start.specs.Starting.{RenamesLast, RollsBackUnlessOld, TakesAllPages, power_on_writes};
 ghost use Rattle.card_start.specs.Running.{Starts, StartStopsBy, Steps, CommandFails, CommandIsCut, card_found};
@@ -22,9 +23,11 @@ ghost use Rattle.card_model.specs.Steps.{IsStage, ChangesNothing};
 ghost use Rattle.command_base.specs.CommitWords.{StandsAsked, TurnsAsked};
 ghost use Rattle.card_model.specs.Behaviours.{answer_bytes};
 ghost use Rattle.command_base.specs.declared.spending.TheConstants.{COMMAND_WRITES};
+ghost use Rattle.card_core.specs.PausedCards.{IsBetween, IsPaused, Recovers, Resumes, ResumeStopsBy, session_on};
 
 use crate::card_parts::CardParts;
 use crate::commands::run_command;
+use crate::paused::Paused;
 use apdu_core::{Answer, Sw};
 use card_start::{CardState, PowerLost, StartFault, survey_card, survey_of};
 use command_base::Current;
@@ -224,6 +227,70 @@ impl<B: Board> Card<B> {
             },
             state: self.state,
         }
+    }
+
+    /// Takes a working card from its board, and returns both: the board as it is, and the card's session.
+    /// `resume` goes on with them. Meanwhile the board may be rewritten, as long as its words after recovery stay.
+    ///
+    /// # Errors
+    /// The same card, if it doesn't work: it has no session.
+    pub fn pause(self) -> Result<(B, Paused), Card<B>>
+        ensures works { OnOk result (self.state ≡ CardState.Working) }
+        ensures board { IfOk result (λ r. (B.facts r.0 ≡ self.facts) × IsBetween (B.facts r.0)) }
+        ensures paused { IfOk result (λ r. IsPaused (words_found self.facts.words) r.1) }
+        ensures session { IfOk result (λ r. session_on (words_found self.facts.words) r.1 ≡ self.session) }
+        ensures back { IfErr result (λ c. (c ≡ self) × (self.state ≢ CardState.Working)) }
+    {
+        match self.state {
+            CardState::Working => {}
+            CardState::Failed | CardState::Dark => return Err(self),
+        }
+        let CardParts {
+            store,
+            current,
+            free,
+            index,
+        } = self.parts;
+        let paused = Paused {
+            current,
+            free,
+            index,
+        };
+        Ok((store.into_board(), paused))
+    }
+
+    /// Puts a paused card on its board again, and goes on with its session.
+    /// The words after recovery are those that it was paused with: then the session fits them. If the journal isn't
+    /// empty, it is rolled back first.
+    ///
+    /// # Errors
+    /// The board, and why the card can't go on: power was off, or was lost; or the device failed. The session is lost.
+    pub fn resume(board: B, paused: Paused) -> Result<Card<B>, (B, StartFault)>
+        requires paused { IsPaused (words_found (B.facts board).words) paused }
+        requires sound { IsSound (B.facts board).words }
+        ensures works { IfOk result (Resumes (B.facts board) paused) }
+        ensures stopped { IfErr result (λ e. ResumeStopsBy e.1 (B.facts board) (B.facts e.0)) }
+        ensures recovers { IfOk result (λ c. Recovers (B.facts board) c.facts) }
+        ensures recovers_err { IfErr result (λ e. Recovers (B.facts board) (B.facts e.0)) }
+    {
+        let Paused {
+            current,
+            free,
+            index,
+        } = paused;
+        let store = match Store::open(board) {
+            Ok(store) => store,
+            Err((board, fault)) => return Err((board, StartFault::from(fault))),
+        };
+        Ok(Card {
+            parts: CardParts {
+                store,
+                current,
+                free,
+                index,
+            },
+            state: CardState::Working,
+        })
     }
 
     /// The board by itself, as it is.

@@ -2,11 +2,13 @@
 //! flash, whatever each power loss leaves in it.
 #![tactic(auto)]
 
+mod paused_link;
 mod playing;
 mod playing_on_flash;
 mod playing_on_sectors;
 mod powered;
 
+pub use paused_link::PausedLink;
 pub use playing::Bench;
 pub use playing_on_flash::play_on_flash;
 pub use playing_on_sectors::play_on_sectors;

@@ -3,9 +3,10 @@ ghost use Rattle.std.specs.Prelude.{◌≡◌, ◌≢◌, ◌⊎◌, ◌+◌, �
 ghost use Rattle.std.specs.Prelude.{IfOk, IfErr};
 ghost use Rattle.nvm_board.specs.Aims.{due_of};
 ghost use Rattle.nvm_board.specs.BoardCalls.{Arms};
+ghost use Rattle.undo_journal.specs.Undo.{IsSound};
 ghost use Rattle.undo_journal.specs.Spending.{Advances, KeepsBoard, WritesAtMost};
 ghost use Rattle.command_base.specs.declared.spending.TheConstants.{COMMAND_WRITES};
-ghost use Rattle.command_base.specs.Finding.{HasCard, FindsAgain};
+ghost use Rattle.command_base.specs.Finding.{HasCard, FindsAgain, words_found};
 ghost use Rattle.card_start.specs.Running.{Starts, StartStopsBy, card_found};
 ghost use Rattle.card_model.specs.Cards.{card_space};
 ghost use Rattle.card_start.specs.Starting.{IsNewFound, KeepsFormat, KeepsFoundUnlessOld, KeepsUnlessOld};
@@ -13,7 +14,10 @@ ghost use Rattle.card_start.specs.Starting.{RenamesLast, RollsBackUnlessOld, Tak
 ghost use Rattle.t1_link.specs.CardTable.{link_step, fresh};
 ghost use Rattle.bench_turns.specs.CardBlocks.{Replies, RepliesFailure, BlockFails, BlockIsCut, IsBlockStage};
 ghost use Rattle.bench_turns.specs.CardBlocks.{IsRun, BlockChangesNothing, BlockCompares, BlockStands, BlockTurns};
+ghost use Rattle.card_core.specs.PausedCards.{IsBetween, Recovers, ResumeStopsBy};
+ghost use Rattle.card_turns.specs.PausedLinks.{link_of, session_behind, IsPausedBehind, ResumesBehind};
 
+use crate::paused_link::PausedLink;
 use card_core::{Answer, Card, FreeSpace};
 use card_start::{CardState, PowerLost, StartFault};
 use nvm_board::{Armed, Board, Faultless};
@@ -170,6 +174,52 @@ impl<B: Board> Powered<B> {
             card: self.card.twin(board),
             link: self.link.twin(),
             answer: Answer::new(),
+        }
+    }
+
+    /// Takes a working card from its board, and returns both: the board as it is, and the card's session with its end
+    /// of the link. `resume` goes on with them.
+    ///
+    /// # Errors
+    /// The same card and link, if the card doesn't work: it has no session.
+    pub fn pause(self) -> Result<(B, PausedLink), Powered<B>>
+        ensures works { OnOk result (self.card.state ≡ CardState.Working) }
+        ensures board { IfOk result (λ r. (B.facts r.0 ≡ self.card.facts) × IsBetween (B.facts r.0)) }
+        ensures paused { IfOk result (λ r. IsPausedBehind (words_found self.card.facts.words) r.1) }
+        ensures session { IfOk result
+            (λ r. session_behind (words_found self.card.facts.words) r.1 ≡ self.card.session) }
+        ensures link { IfOk result (λ r. link_of r.1 ≡ self.link) }
+        ensures back { IfErr result (λ p. (p ≡ self) × (self.card.state ≢ CardState.Working)) }
+    {
+        let Powered { card, link, answer } = self;
+        match card.pause() {
+            Ok((board, card)) => Ok((board, PausedLink { card, link })),
+            Err(card) => Err(Powered { card, link, answer }),
+        }
+    }
+
+    /// Puts a paused card on its board again, and goes on with its session and its end of the link.
+    /// The words after recovery are those that it was paused with, as for `Card::resume`.
+    ///
+    /// # Errors
+    /// The board, and why the card can't go on: power was off, or was lost; or the device failed. Session and link are
+    /// lost.
+    pub fn resume(board: B, paused: PausedLink) -> Result<Powered<B>, (B, StartFault)>
+        requires paused { IsPausedBehind (words_found (B.facts board).words) paused }
+        requires sound { IsSound (B.facts board).words }
+        ensures works { IfOk result (ResumesBehind (B.facts board) paused) }
+        ensures stopped { IfErr result (λ e. ResumeStopsBy e.1 (B.facts board) (B.facts e.0)) }
+        ensures recovers { IfOk result (λ p. Recovers (B.facts board) p.card.facts) }
+        ensures recovers_err { IfErr result (λ e. Recovers (B.facts board) (B.facts e.0)) }
+    {
+        let PausedLink { card, link } = paused;
+        match Card::resume(board, card) {
+            Ok(card) => Ok(Powered {
+                card,
+                link,
+                answer: Answer::new(),
+            }),
+            Err(stopped) => Err(stopped),
         }
     }
 
