@@ -1,8 +1,11 @@
-//! Tests of the board on a flash that leaves garbage, and of chips with program units or worn sectors.
+//! Tests of the board on a flash that leaves garbage, of chips with program units or worn sectors, and of a card that
+//! forgets.
 #![tactic(auto)]
 
 #[cfg(test)]
 mod arrays;
+#[cfg(test)]
+mod forgetting;
 #[cfg(test)]
 mod many_pages;
 #[cfg(test)]
