@@ -13,8 +13,8 @@ FLASH_FILES, FLASH_EXAMPLE = Path(__file__).with_name("flash_files"), TOP / "exa
 FLASH, CARD_LIBRARY = "device_flash", "card_device staticlib"
 OWN_ON_FLASH = {
     FLASH: "nvm_board flash_device",
-    CARD_LIBRARY: "nvm_board flash_moves flash_log flash_board undo_journal device_flash t1_link card_start "
-    "card_core card_turns",
+    CARD_LIBRARY: "nvm_board flash_moves flash_log flash_board undo_journal device_flash t1_link command_base "
+    "card_start card_core card_turns",
 }
 # what differs there: the flash is made of what the device is
 LAYER_TEXTS = {
@@ -196,7 +196,15 @@ SMALL_TEXTS = {
     },
     # (a flash of another log may have no slot for each step that is left)
     HEADER: {"CARD_TOO_LARGE = 8": "CARD_TOO_LARGE = 8,\n    CARD_OUT_OF_STEP = 9"},
+    "crates/card_device/src/forgetting.rt": {
+        "Powered, forget_on_flash};": "Powered, forget_on_sectors as forget_on_flash};",
+    },
+    "crates/card_device/src/renewing.rt": {
+        "use card_turns::forget_on_flash;": "use card_turns::forget_on_sectors as forget_on_flash;",
+    },
 }
+# old values of PINs leave journal and flash by themselves
+FORGET_TEXTS = {"crates/card_device/src/forgetting.rt": {"FORGETS: bool = false;": "FORGETS: bool = true;"}}
 # what is as in a port over a board, by its place
 SHARED = {
     f"crates/device_flash/{it}": FILES / "crates/device_board" / it
@@ -259,10 +267,11 @@ def own_files(layer: Layer | None) -> dict[str, Path]:
 
 def fill(
     folder: Path, pages: int | None = None, slots: int | None = None, sector_words: int | None = None,
-    unit: int | None = None, spares: int | None = None, small: bool = False,
+    unit: int | None = None, spares: int | None = None, small: bool = False, forgets: bool = False,
 ) -> None:
     """Puts the files of a port into an empty folder, with other sizes of the flash and its board if given, and with
-    program units of so many words, so many spare sectors, or small sectors, if it has such."""
+    program units of so many words, so many spare sectors, or small sectors, if it has such. Its card forgets old values
+    of PINs, or doesn't."""
     layer, smaller = LAYERS[bool(unit), bool(spares)], SMALLS[bool(unit), bool(spares)] if small else None
     copy_crates(folder, own_crates(layer, small))
     placed = {f"device/{name}": path for name, path in code().items()} | {it: TOP / it for it in LICENSES}
@@ -276,6 +285,8 @@ def fill(
     if smaller:
         take_texts(folder, SMALL_TEXTS)
         take_names(folder / "crates" / FLASH, smaller.names)
+    if forgets:
+        take_texts(folder, FORGET_TEXTS)
     sizes = ((PAGES, pages), (SLOTS, slots), (SECTOR_WORDS, sector_words), (UNIT, unit), (SPARE_SECTORS, spares))
     for size, given in sizes:
         if given:

@@ -39,6 +39,10 @@ FILLS: dict[str, Callable[[Path], None]] = {
     "spares": partial(over_flash.fill, spares=SPARES),
     "spare-units": partial(over_flash.fill, unit=UNIT_WORDS, spares=SPARES),
     "small": partial(over_flash.fill, slots=SMALL_SLOTS, sector_words=SMALL_WORDS, small=True),
+    "forgets": partial(over_flash.fill, forgets=True),
+    "small-forgets": partial(
+        over_flash.fill, slots=SMALL_SLOTS, sector_words=SMALL_WORDS, small=True, forgets=True,
+    ),
     "small-spare-units": partial(
         over_flash.fill, slots=SMALL_FRAMES, sector_words=SMALL_FRAME_WORDS, unit=UNIT_WORDS, spares=SPARES, small=True,
     ),
